@@ -1,0 +1,4 @@
+pub mod Plane
+pub mod Office
+pub mod Verdict
+pub mod Acceptable

@@ -1,0 +1,60 @@
+// Exact numbers of points. For this crate and the layers above: no public call, so a `requires` may stand.
+ghost use mathlib.Core.Path.{_≡_};
+ghost use Prim.Native.Nat.{_<_};
+ghost use lib.ListN.{length, getD};
+ghost use lib.IntN.{pos, natAbs, _-ℤ_};
+ghost use lib.Signed.{_<ℤ_};
+ghost use Rattle.sheet.specs.Plane.{spot, Small};
+ghost use Rattle.sheet.specs.Plane as plane;
+
+pub fn wide(x: u16) -> usize
+    ensures { λ r. ⌜ r ≡ x ⌝ }
+{
+    x as usize
+}
+
+pub fn apart(a: u16, b: u16) -> u32
+    ensures { λ r. ⌜ r ≡ natAbs (pos b -ℤ pos a) ⌝ }
+{
+    if a < b {
+        (b - a) as u32
+    } else {
+        (a - b) as u32
+    }
+}
+
+// The squared length of the way from one point to another.
+pub fn squared(ax: u16, ay: u16, bx: u16, by: u16) -> u32
+    requires { ⌜ Small (spot ax ay) × Small (spot bx by) ⌝ }
+    ensures { λ r. ⌜ r ≡ natAbs (plane.squared (spot ax ay) (spot bx by)) ⌝ }
+{
+    let x = apart(ax, bx);
+    let y = apart(ay, by);
+    x * x + y * y
+}
+
+pub fn turn(ax: u16, ay: u16, bx: u16, by: u16, cx: u16, cy: u16) -> i64
+    requires { ⌜ Small (spot ax ay) × Small (spot bx by) × Small (spot cx cy) ⌝ }
+    ensures { λ r. ⌜ r ≡ plane.turn (spot ax ay) (spot bx by) (spot cx cy) ⌝ }
+{
+    (bx as i64 - ax as i64) * (cy as i64 - ay as i64)
+        - (by as i64 - ay as i64) * (cx as i64 - ax as i64)
+}
+
+// Twice the area of a triangle whose corners run counterclockwise.
+pub fn doubled(ax: u16, ay: u16, bx: u16, by: u16, cx: u16, cy: u16) -> u32
+    requires { ⌜ Small (spot ax ay) × Small (spot bx by) × Small (spot cx cy) ⌝ }
+    requires { ⌜ pos 0 <ℤ plane.turn (spot ax ay) (spot bx by) (spot cx cy) ⌝ }
+    ensures { λ r. ⌜ r ≡ natAbs (plane.turn (spot ax ay) (spot bx by) (spot cx cy)) ⌝ }
+{
+    turn(ax, ay, bx, by, cx, cy) as u32
+}
+
+// A coordinate of the corner at place s.
+pub fn at_corner(list: &[u16], corners: &[u16], s: usize) -> u16
+    requires { ⌜ (s < length (now corners)) × (getD (now corners) s 0 < length (now list)) ⌝ }
+    ensures { λ r. ⌜ r ≡ getD (now (list .entry)) (getD (now (corners .entry)) s 0) 0 ⌝ }
+{
+    let p = corners[s] as usize;
+    list[p]
+}
