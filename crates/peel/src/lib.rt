@@ -1,4 +1,6 @@
-// Peeling.
+// Layer 2, peeling: draw, outline and list. Document 01, 'Peeling'.
+use sheet::plane::{at_corner, doubled, squared, wide};
+use sheet::sides::mates;
 ghost use mathlib.Core.Path.{_≡_};
 ghost use mathlib.Core.List.{_++_};
 ghost use mathlib.Core.Bool.{_&&_, _||_, not};
@@ -74,8 +76,6 @@ pub struct Ended {
     pub tally: Tally,
 }
 
-// Numbers.
-
 fn lower(a: u16, b: u16) -> u16
     ensures { λ r. ⌜ r ≡ min a b ⌝ }
 {
@@ -87,8 +87,6 @@ fn higher(a: u16, b: u16) -> u16
 {
     if a < b { b } else { a }
 }
-
-// Mates.
 
 // Sides.
 
