@@ -6,6 +6,9 @@ pub mod Balance
 pub mod OneRing
 pub mod Single
 pub mod Accepted
+pub mod Dozen
+pub mod Unique
+pub mod Refusing
 pub mod AtPoint
 pub mod Plots
 pub mod Linear
@@ -14,7 +17,6 @@ pub mod Length
 pub mod Sign
 pub mod Total
 pub mod Swap
-pub mod Circuit
 pub mod Cross
 pub mod Ray
 pub mod Line
@@ -30,11 +32,9 @@ pub mod Between
 pub mod Near
 pub mod Meet
 pub mod Facing
-pub mod Edge
 pub mod Share
 pub mod Inner
 pub mod Aim
-pub mod Cavity
-pub mod Reach
-pub mod Global
 pub mod Tiled
+pub mod Areas
+pub mod NoOverlap
