@@ -11,6 +11,7 @@ pub mod Unique
 pub mod Refusing
 pub mod AtPoint
 pub mod Plots
+pub mod Chain
 pub mod Linear
 pub mod Hull
 pub mod Length
