@@ -15,6 +15,9 @@ ring-requires c κs =
     let p = c .before .before .before .before .before .before .before .before .before .pre .0 in
     ((c .before .before .before .mates .ensures, p .short, p .whole, λ s l. omega (arith, p .numbered s l, p .few)), c .before .rim-length .ensures)
 
+accepts : tie.Need-returns-4
+accepts c = at-none _ _ _ _ _ _ (c .before .before .before .before .before .before .before .before .before .before .first-invaded .ensures) (c .before .before .before .before .before .before .before .before .before .if1 .left) (when-sound _ (ap not (sym (c .before .before .before .before .is-one-ring .ensures)) ∙ c .before .before .before .if2 .left) (at-none _ _ _ _ _ _ (c .before .first-outer .ensures) (c .if3 .left) (ap accepted (c .before .before .before .before .before .before .rim-length .ensures))))
+
 pub check-rim-spec : {M : Type 1} → statement M
 check-rim-spec =
     tie.close
@@ -30,4 +33,4 @@ check-rim-spec =
     (λ c κs. search needs)
     (λ c κs. search needs)
     (λ c. at-none _ _ _ _ _ _ (c .before .before .before .before .before .before .before .before .before .before .before .first-invaded .ensures) (c .before .before .before .before .before .before .before .before .before .before .if1 .left) (when-sound _ (ap not (sym (c .before .before .before .before .before .is-one-ring .ensures)) ∙ c .before .before .before .before .if2 .left) (at-hit _ _ _ _ _ _ (c .before .before .first-outer .ensures) (c .before .if3 .taken) (c .refused3 .ensures))))
-    (λ c. at-none _ _ _ _ _ _ (c .before .before .before .before .before .before .before .before .before .before .first-invaded .ensures) (c .before .before .before .before .before .before .before .before .before .if1 .left) (when-sound _ (ap not (sym (c .before .before .before .before .is-one-ring .ensures)) ∙ c .before .before .before .if2 .left) (at-none _ _ _ _ _ _ (c .before .first-outer .ensures) (c .if3 .left) (ap accepted (c .before .before .before .before .before .before .rim-length .ensures))))))
+    accepts)
