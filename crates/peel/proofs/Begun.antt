@@ -22,7 +22,7 @@ use Rattle.peel.specs.Reached.{Reached, begun}
 use Rattle.peel.specs.Code.{front, mark, State, Numbered, ends-marked, Marked}
 use Rattle.peel.proofs.Reached.{sound}
 use Rattle.peel.proofs.Greatest.{doubled-bound}
-use Rattle.peel.proofs.Ring.{rims-are}
+use Rattle.peel.proofs.Rings.{rims-are}
 
 sum-last : (f : ℕ → ℕ) (n : ℕ) → sum f (suc n) ≡ sum f n + f n
 unfolding sum

@@ -14,7 +14,7 @@ use Rattle.sheet.specs.Acceptable.{Acceptable}
 use Rattle.peel.specs.Peel.{removable, long, best, peel, turned, peels, whole, drawn}
 use Rattle.peel.specs.Reached.{Reached, begun, more}
 use Rattle.peel.proofs.Reached.{sound}
-use Rattle.peel.proofs.Ring.{some-kept}
+use Rattle.peel.proofs.Rings.{some-kept}
 use Rattle.peel.proofs.TopSide.{Before, Top, best-top}
 
 -- no removable side is longer than the limit

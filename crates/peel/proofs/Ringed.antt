@@ -22,7 +22,7 @@ use Rattle.peel.specs.Code.{front, mark, State, Numbered, Leaves, Ringli
 use Rattle.peel.proofs.Marks.{Way, OnRim, rim-iff, on-rim-iff}
 use Rattle.peel.proofs.Mated.{rim-bare}
 use Rattle.peel.proofs.Reached.{sound}
-use Rattle.peel.proofs.Ring.{rims-are, ring-fits}
+use Rattle.peel.proofs.Rings.{rims-are, ring-fits}
 
 -- links, one more side at a time
 module _ (corners k : List ℕ) where

@@ -23,7 +23,7 @@ use Rattle.sheet.proofs.Inner.{Inner, shared}
 use Rattle.peel.specs.Peel.{rim, ring, drawn}
 use Rattle.peel.proofs.Marks.{Way, rim-iff}
 use Rattle.peel.proofs.Reached.{Sound, sound}
-use Rattle.peel.proofs.Ring.{outlined, ring-length}
+use Rattle.peel.proofs.Rings.{outlined, ring-length}
 use Rattle.peel.proofs.Drawn.{drawn-ends}
 
 module _ (o : Office) (row : List ℕ) where

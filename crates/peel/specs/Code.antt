@@ -13,10 +13,10 @@ use Rattle.sheet.specs.Acceptable.{Acceptable}
 use Rattle.peel.specs.Peel.{rim, on-rim, low, high, long, best, turned, peels, rims, ring, peeled, doubled}
 use Rattle.peel.specs.List.{Entry, entries-from}
 use Rattle.peel.specs.Reached.{Reached}
-use Rattle.peel.specs.declared.Best.{Best}
-use Rattle.peel.specs.declared.Best.the-variants.{Side, Nothing}
-use Rattle.peel.specs.declared.Step.{Step}
-use Rattle.peel.specs.declared.Step.the-variants.{Peeled, Nothing as Stays}
+use Rattle.peel.specs.declared.answers.Best.{Best}
+use Rattle.peel.specs.declared.answers.Best.the-variants.{Side, Nothing}
+use Rattle.peel.specs.declared.answers.Step.{Step}
+use Rattle.peel.specs.declared.answers.Step.the-variants.{Peeled, Nothing as Stays}
 
 -- the definitions' marks: those in front, one a triangle
 abbrev pub front : List ℕ → List ℕ → List ℕ
