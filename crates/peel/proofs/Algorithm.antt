@@ -7,20 +7,20 @@ use Prim.Native.Nat.{ℕ, zero, suc, _+_, _*_, _<_, _≤_}
 use native.Mathlib.Omega.{arith}
 use lib.Dec.{ltb, eqb}
 use lib.ListN.{length}
-use Rattle.laws.specs.Sorted.{insert}
+use Rattle.laws.specs.Sorted.{insert, sort}
 use Rattle.laws.proofs.Test.{and-iff, not-iff, false-iff, ltb-iff}
-use Rattle.laws.proofs.Sorted.{In, Sorted, front, length-insert, in-insert, insert-in}
+use Rattle.laws.proofs.Sorted.{In, Sorted, front, length-insert, in-insert, insert-in, length-sort, in-sort, sort-in}
 use Rattle.sheet.specs.Office.{Office, sides, triangles, apex, next, last}
 use Rattle.sheet.specs.Acceptable.{Acceptable}
-use Rattle.peel.specs.Peel.{on-rim, long, before, peel, whole, drawn}
-use Rattle.peel.specs.Algorithm.{State, boundary, start, reveal, dug, turn, turns}
+use Rattle.peel.specs.Peel.{rim, on-rim, long, before, peel, whole, drawn, ring}
+use Rattle.peel.specs.Algorithm.{State, boundary, ends, start, reveal, regular, dug, turn, turns, final, shape}
 use Rattle.peel.proofs.Marks.{removable-iff, rim-iff}
 use Rattle.peel.proofs.OnePeel.{outward, inward}
 use Rattle.peel.proofs.RimPoints.{on-rim-after}
 use Rattle.peel.specs.Reached.{begun}
 use Rattle.peel.proofs.Waiting.{Waiting, none-waits, forgets, first-is-best, can, replaces}
 use Rattle.peel.proofs.Ahead.{Ahead, all-ahead, peel-ahead, none-ahead}
-use Rattle.peel.proofs.Boundary.{insert-ordered, reveal-is, boundary-sorted, boundary-length, in-boundary, boundary-in}
+use Rattle.peel.proofs.Boundary.{insert-ordered, sort-ordered, ends-on-rim, reveal-is, boundary-length, in-boundary, boundary-in}
 
 module _ {o : Office} (a : Acceptable o) where
   module _ (limit : ℕ) where
@@ -31,18 +31,20 @@ module _ {o : Office} (a : Acceptable o) where
       pub edges : (p : ℕ) → edge p ≡ on-rim o k p
       pub sorted : Sorted (before o) b
 
-    begins : Under 0 (triangles o) (whole o) (on-rim o (whole o)) (boundary o (sides o))
-    begins = record {
-      waiting = record {
-        reached = begun;
-        below = λ s d. in-boundary a (sides o) s d .0;
-        fresh = λ s d. inl (in-boundary a (sides o) s d .1);
-        waits = λ s l e h. boundary-in a (sides o) s l (rim-iff o (whole o) s .1 (removable-iff o (whole o) s .0 e .0));
-      };
-      ahead = all-ahead;
-      edges = λ p. refl;
-      sorted = boundary-sorted a (sides o);
-    }
+    begins : Under 0 (triangles o) (whole o) (ends o (sides o)) (sort (before o) (boundary o (sides o)))
+    begins =
+        let back = in-sort (before o) (boundary o (sides o)) in
+        record {
+          waiting = record {
+            reached = begun;
+            below = λ s d. in-boundary a (sides o) s (back s d) .0;
+            fresh = λ s d. inl (in-boundary a (sides o) s (back s d) .1);
+            waits = λ s l e h. sort-in (before o) (boundary o (sides o)) s (boundary-in a (sides o) s l (rim-iff o (whole o) s .1 (removable-iff o (whole o) s .0 e .0)));
+          };
+          ahead = all-ahead;
+          edges = ends-on-rim o;
+          sorted = sort-ordered o (boundary o (sides o));
+        }
 
     -- how it ends
     pub record Ended (t : State) : Type 0 where
@@ -144,24 +146,26 @@ module _ {o : Office} (a : Acceptable o) where
                   (λ q d. from q (in-insert (before o) (reveal o (next s)) first q d));
               ahead = h;
               edges = λ p. ap (λ t. t || eqb p (apex o s)) (u .edges p) ∙ sym (on-rim-after a (can (u .waiting) a s here off) p);
-              sorted = insert-ordered a (reveal o (next s)) first (insert-ordered a (reveal o (last s)) b (rest-sorted (u .sorted)));
+              sorted = insert-ordered o (reveal o (next s)) first (insert-ordered o (reveal o (last s)) b (rest-sorted (u .sorted)));
             },
             (let x = length-insert (before o) (reveal o (next s)) first in let y = length-insert (before o) (reveal o (last s)) b in omega arith),
           )
 
       leads : Leads (length (s ∷ b) + 2 * left) (turn o limit k edge (s ∷ b))
       unfolding turn
-      leads = step (ltb limit (long o s) && not (edge (apex o s))) refl
+      leads = step (ltb limit (long o s) && regular o k edge s) refl
         where
-          step : (c : Bool) → (ltb limit (long o s) && not (edge (apex o s))) ≡ c → Leads (length (s ∷ b) + 2 * left) (cond c (dug o k edge s b) (at k edge b))
+          step : (c : Bool) → (ltb limit (long o s) && regular o k edge s) ≡ c → Leads (length (s ∷ b) + 2 * left) (cond c (dug o k edge s b) (at k edge b))
           step true e =
               let (l, f) = and-iff {a = ltb limit (long o s)} .0 e in
-              digs (ltb-iff .0 l) (false-iff .1 (λ t. not-iff .0 f (u .edges (apex o s) ∙ t)))
-          step false e = discards (λ l. on (edge (apex o s)) refl l)
+              let (_, g) = and-iff {a = rim o k s} .0 f in
+              digs (ltb-iff .0 l) (false-iff .1 (λ t. not-iff .0 g (u .edges (apex o s) ∙ t)))
+          step false e = discards (λ l. on (edge (apex o s)) refl l (u .waiting .fresh s (List·Memᴰ·head refl)))
             where
-              on : (c : Bool) → edge (apex o s) ≡ c → limit < long o s → on-rim o k (apex o s) ≡ true
-              on true t l = sym (u .edges (apex o s)) ∙ t
-              on false t l = absurd (false-iff .0 e (and-iff .1 (ltb-iff .1 l, not-iff .1 (λ x. false-iff .0 t x))))
+              on : (c : Bool) → edge (apex o s) ≡ c → limit < long o s → (rim o k s ≡ true) ⊎ (on-rim o k (apex o s) ≡ true) → on-rim o k (apex o s) ≡ true
+              on c t l (inr h) = h
+              on true t l (inl h) = sym (u .edges (apex o s)) ∙ t
+              on false t l (inl h) = absurd (false-iff .0 e (and-iff .1 (ltb-iff .1 l, and-iff .1 (h, not-iff .1 (λ x. false-iff .0 t x)))))
 
     run : (m n left : ℕ) (k : List ℕ) (edge : ℕ → Bool) (b : List ℕ) → Under n left k edge b → length b + 2 * left ≤ m → Ended (turns o limit m (at k edge b))
     unfolding turns turn
@@ -171,5 +175,15 @@ module _ {o : Office} (a : Acceptable o) where
     run (suc m) n left k edge (s ∷ b) u l = let (i, j, v, e) = leads u in run m i j _ _ _ v (omega arith)
 
     -- the loop ends within as many turns as this, and further turns change nothing
-    pub algorithm : (m : ℕ) → sides o + 2 * triangles o ≤ m → Ended (turns o limit m (start o))
-    algorithm m l = run m 0 (triangles o) (whole o) (on-rim o (whole o)) (boundary o (sides o)) begins (let h = boundary-length a (sides o) in omega arith)
+    pub algorithm-ends : (m : ℕ) → sides o + 2 * triangles o ≤ m → Ended (turns o limit m (start o))
+    algorithm-ends m l = run m 0 (triangles o) (whole o) (ends o (sides o)) (sort (before o) (boundary o (sides o))) begins
+        (let h = boundary-length a (sides o) in let e = length-sort (before o) (boundary o (sides o)) in omega arith)
+
+    -- the marks that Algorithm 1 ends with are the draw's
+    pub algorithm-drawn : final o limit .marks ≡ drawn o limit
+    unfolding final
+    algorithm-drawn = algorithm-ends (sides o + 2 * triangles o) (omega arith) .marks
+
+    -- so its polygon is the outline
+    pub algorithm-shape : shape o limit ≡ ring o (drawn o limit)
+    algorithm-shape = ap (ring o) algorithm-drawn
