@@ -12,7 +12,7 @@ use Rattle.peel.specs.Reached.{Reached}
 use Rattle.peel.proofs.Reached.{sound}
 use Rattle.peel.proofs.Rings.{some-kept}
 use Rattle.peel.proofs.TopSide.{Top, best-top}
-use Rattle.peel.proofs.Drawn.{Done}
+use Rattle.peel.proofs.DrawEnds.{Done}
 
 -- after n peels, and with `left` more at most
 pub record Ahead (o : Office) (limit n left : ℕ) (k : List ℕ) : Type 0 where

@@ -24,7 +24,7 @@ use Rattle.peel.specs.Peel.{rim, ring, drawn}
 use Rattle.peel.proofs.Marks.{Way, rim-iff}
 use Rattle.peel.proofs.Reached.{Sound, sound}
 use Rattle.peel.proofs.Rings.{outlined, ring-length}
-use Rattle.peel.proofs.Drawn.{drawn-ends}
+use Rattle.peel.proofs.DrawEnds.{drawn-ends}
 
 module _ (o : Office) (row : List ℕ) where
   -- the point at step i, going round

@@ -19,7 +19,7 @@ use Rattle.peel.proofs.RimPoints.{on-rim-after}
 use Rattle.peel.specs.Reached.{Reached, more}
 use Rattle.peel.proofs.Reached.{sound, peelable}
 use Rattle.peel.proofs.TopSide.{Before, before-iff, before-total, best-iff}
-use Rattle.peel.proofs.Drawn.{Done}
+use Rattle.peel.proofs.DrawEnds.{Done}
 
 -- the sides q with `In q` wait at marks k, after n peels
 pub record Waiting (o : Office) (limit n : ℕ) (k : List ℕ) (In : ℕ → Type 0) : Type 0 where

@@ -10,9 +10,10 @@ use lib.Seq.{sets}
 use Rattle.laws.specs.First.{table}
 use Rattle.sheet.specs.Office.{Office, office, bare, mate-of, points, sides, triangles, tail, head}
 use Rattle.sheet.specs.Acceptable.{Acceptable}
-use Rattle.peel.specs.Peel.{rim, on-rim, low, high, long, best, turned, peels, rims, ring, peeled, doubled}
+use Rattle.peel.specs.Peel.{rim, on-rim, precedes, low, high, long, best, turned, peels, rims, ring, peeled, doubled}
 use Rattle.peel.specs.List.{Entry, entries-from}
 use Rattle.peel.specs.Reached.{Reached}
+use Rattle.peel.specs.Answer.{mark}
 use Rattle.peel.specs.declared.answers.Best.{Best}
 use Rattle.peel.specs.declared.answers.Best.the-variants.{Side, Nothing}
 use Rattle.peel.specs.declared.answers.Step.{Step}
@@ -22,15 +23,9 @@ use Rattle.peel.specs.declared.answers.Step.the-variants.{Peeled, Nothin
 abbrev pub front : List ℕ → List ℕ → List ℕ
 front corners kept = take (length corners / 3) kept
 
--- a mark
-abbrev pub mark : Bool → ℕ
-mark b = cond b 1 0
-
 -- side s, of length long, goes before side r, of length other
 abbrev pub earlier : List ℕ → ℕ → ℕ → ℕ → ℕ → Bool
-earlier corners s long r other =
-    ltb other long
-    || (eqb other long && (ltb (low (bare corners) s) (low (bare corners) r) || (eqb (low (bare corners) s) (low (bare corners) r) && ltb (high (bare corners) s) (high (bare corners) r))))
+earlier corners s long r other = precedes long (low (bare corners) s) (high (bare corners) s) other (low (bare corners) r) (high (bare corners) r)
 
 -- an acceptable office, its mates, and the marks of its triangles and of the points on the rim
 pub record Held (o : Office) (mate kept rim : List ℕ) : Type 0 where
@@ -126,10 +121,6 @@ pub record Outlined (o : Office) (k kept rim round kept′ rim′ round′ : Lis
   pub peels-are : peels ≡ peeled o k
   pub area-is : area ≡ doubled o k
   pub sides-are : sides ≡ rims o k
-
--- the used part of a ring buffer: none where the tally claims too much
-abbrev pub used : List ℕ → ℕ → List ℕ
-used round sides = cond (leb sides (length round)) (take sides round) []
 
 -- the entries from a state on, after `begun` peels
 abbrev pub entries-on : Office → List ℕ → ℕ → List Entry

@@ -2,9 +2,7 @@
 use crate::answers::Best;
 use crate::sides::{high_of, is_rim, low_of, side_squared};
 ghost use mathlib.Core.Path.{_≡_};
-ghost use mathlib.Core.Bool.{_&&_, _||_};
 ghost use Prim.Native.Nat.{_%_, _<_, _≤_};
-ghost use lib.Dec.{ltb, eqb};
 ghost use lib.ListN.{length};
 ghost use Rattle.sheet.specs.Office.{office};
 ghost use Rattle.peel.specs.Code.{front, earlier, Held, told, side-of, place-of};
@@ -12,7 +10,7 @@ ghost use Rattle.peel.specs.Peel as peeling;
 
 // Whether a side goes before another: it is longer; of equal lengths, the smaller lower point number, then the smaller higher one.
 pub fn precedes(long: u32, low: u16, high: u16, rlong: u32, rlow: u16, rhigh: u16) -> bool
-    ensures { λ r. ⌜ r ≡ (ltb rlong long || (eqb rlong long && (ltb low rlow || (eqb low rlow && ltb high rhigh)))) ⌝ }
+    ensures { λ r. ⌜ r ≡ peeling.precedes long low high rlong rlow rhigh ⌝ }
 {
     (rlong < long) | ((rlong == long) & ((low < rlow) | ((low == rlow) & (high < rhigh))))
 }

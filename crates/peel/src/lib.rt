@@ -8,10 +8,12 @@ mod sides;
 mod start;
 mod step;
 
+use sheet::Refusal;
+
 ghost use mathlib.Core.Path.{_≡_};
 ghost use Prim.Native.Nat.{_+_, _<_};
 ghost use Rattle.sheet.specs.Office.{area};
-ghost use Rattle.peel.specs.Code.{used};
+ghost use Rattle.peel.specs.Answer.{used};
 
 // The running tally: triangles peeled, twice the area of those kept, and the ring's length.
 pub struct Tally {
@@ -43,6 +45,18 @@ impl Tally {
             ring: ring,
         }
     }
+}
+
+// What a draw answers.
+pub enum Drawn {
+    Outline(Tally),
+    Refused(Refusal),
+}
+
+// What a list answers: how many entries there are, or a refusal.
+pub enum Listed {
+    Entries(usize),
+    Refused(Refusal),
 }
 
 // The used part of a lent ring buffer; the empty part where the tally claims more than the buffer holds.
