@@ -47,7 +47,6 @@ module _ (o : Office) where
   ends-on-rim p = ends-are (sides o) p
 
 module _ {o : Office} (a : Acceptable o) where
-
   -- the only side that runs back along r is the one revealed
   pub reveal-is : (r b : ℕ) → b < sides o → Reverse o r b → reveal o r ≡ b
   reveal-is r b l v =

@@ -136,6 +136,6 @@ pub record Noted (es : List Entry) (least peeled area least′ peeled′ area′
 -- the same: the entries stand in front, and later places are untouched
 pub record Written (es : List Entry) (least peeled area least′ peeled′ area′ : List ℕ) (count : ℕ) : Type 0 where
   pub counts : count ≡ length es
-  pub leasts : least′ ≡ map (λ e. e .least) es ++ drop count least
-  pub peels : peeled′ ≡ map (λ e. e .outline .peels) es ++ drop count peeled
-  pub areas : area′ ≡ map (λ e. e .outline .area) es ++ drop count area
+  pub leasts : least′ ≡ map (λ e. e .least) es ++ drop (length es) least
+  pub peels : peeled′ ≡ map (λ e. e .outline .peels) es ++ drop (length es) peeled
+  pub areas : area′ ≡ map (λ e. e .outline .area) es ++ drop (length es) area

@@ -1,6 +1,9 @@
 // The side to peel next.
 use crate::answers::Best;
-use crate::sides::{high_of, is_rim, low_of, side_squared};
+use crate::sides::high_of;
+use crate::sides::is_rim;
+use crate::sides::low_of;
+use crate::sides::side_squared;
 ghost use mathlib.Core.Path.{_≡_};
 ghost use Prim.Native.Nat.{_%_, _<_, _≤_};
 ghost use lib.ListN.{length};
@@ -49,7 +52,7 @@ pub fn better(
     let apex = corners[a] as usize;
     let taken = rim[apex] == 1;
     if taken {
-        return found;
+        return found; // s is not removable
     }
     let bare = is_rim(corners, mate, kept, s);
     if !bare {

@@ -4,16 +4,21 @@ mod best;
 mod drawing;
 mod listing;
 mod ring;
+mod room;
 mod sides;
 mod start;
 mod step;
 
+use drawing::draw_accepted;
+use listing::list_accepted;
+use room::draw_room;
+use room::list_room;
+use sheet::Checked;
 use sheet::Refusal;
-
+use sheet::check_lent;
 ghost use mathlib.Core.Path.{_≡_};
 ghost use Prim.Native.Nat.{_+_, _<_};
-ghost use Rattle.sheet.specs.Office.{area};
-ghost use Rattle.peel.specs.Answer.{used};
+ghost use Rattle.peel.specs.Answer.{draw-answer, list-answer, after-draw, after-list, used};
 
 // The running tally: triangles peeled, twice the area of those kept, and the ring's length.
 pub struct Tally {
@@ -59,6 +64,35 @@ pub enum Listed {
     Refused(Refusal),
 }
 
+// Draws the outline at a limit: peels while a removable side is strictly longer. Afterwards a triangle's mark is 1 where it is kept, a point's
+// is 1 where it is on the rim, else 0, and the ring stands in front. Later places stay as they were; a refusal writes nothing.
+pub fn draw(
+    xs: &[u16],
+    ys: &[u16],
+    corners: &[u16],
+    limit: u32,
+    kept: &mut [u8],
+    rim: &mut [u8],
+    ring: &mut [u16],
+) -> Drawn
+    ensures { λ r. ⌜ draw-answer r ≡ after-draw (now (xs .entry)) (now (ys .entry)) (now (corners .entry)) limit (now (kept .entry)) (now (rim .entry)) (now (ring .entry)) .answer ⌝ }
+    ensures { λ _. ⌜ now (kept .exit) ≡ after-draw (now (xs .entry)) (now (ys .entry)) (now (corners .entry)) limit (now (kept .entry)) (now (rim .entry)) (now (ring .entry)) .kept ⌝ }
+    ensures { λ _. ⌜ now (rim .exit) ≡ after-draw (now (xs .entry)) (now (ys .entry)) (now (corners .entry)) limit (now (kept .entry)) (now (rim .entry)) (now (ring .entry)) .rim ⌝ }
+    ensures { λ _. ⌜ now (ring .exit) ≡ after-draw (now (xs .entry)) (now (ys .entry)) (now (corners .entry)) limit (now (kept .entry)) (now (rim .entry)) (now (ring .entry)) .ring ⌝ }
+{
+    let room = draw_room(xs, corners, kept, rim, ring);
+    let checked = check_lent(xs, ys, corners, room);
+    match checked {
+        Checked::Refused(refusal) => {
+            return Drawn::Refused(refusal);
+        }
+        Checked::Accepted(hull) => {
+            let tally = draw_accepted(xs, ys, corners, hull, limit, kept, rim, ring);
+            return Drawn::Outline(tally);
+        }
+    }
+}
+
 // The used part of a lent ring buffer; the empty part where the tally claims more than the buffer holds.
 pub fn outline<'a>(ring: &'a [u16], tally: Tally) -> &'a [u16]
     ensures { λ r. ⌜ now r ≡ used (now (ring .entry)) (tally .ring) ⌝ }
@@ -68,4 +102,38 @@ pub fn outline<'a>(ring: &'a [u16], tally: Tally) -> &'a [u16]
         return &ring[..n];
     }
     &ring[..0]
+}
+
+// Lists every outline that a limit gives, once, with the least limit that gives it, from the hull on. Marks and ring end as a draw at limit 0
+// leaves them. Later places of the lists stay as they were; a refusal writes nothing.
+pub fn list(
+    xs: &[u16],
+    ys: &[u16],
+    corners: &[u16],
+    kept: &mut [u8],
+    rim: &mut [u8],
+    ring: &mut [u16],
+    least: &mut [u32],
+    peeled: &mut [u32],
+    area: &mut [u32],
+) -> Listed
+    ensures { λ r. ⌜ list-answer r ≡ after-list (now (xs .entry)) (now (ys .entry)) (now (corners .entry)) (now (kept .entry)) (now (rim .entry)) (now (ring .entry)) (now (least .entry)) (now (peeled .entry)) (now (area .entry)) .answer ⌝ }
+    ensures { λ _. ⌜ now (kept .exit) ≡ after-list (now (xs .entry)) (now (ys .entry)) (now (corners .entry)) (now (kept .entry)) (now (rim .entry)) (now (ring .entry)) (now (least .entry)) (now (peeled .entry)) (now (area .entry)) .kept ⌝ }
+    ensures { λ _. ⌜ now (rim .exit) ≡ after-list (now (xs .entry)) (now (ys .entry)) (now (corners .entry)) (now (kept .entry)) (now (rim .entry)) (now (ring .entry)) (now (least .entry)) (now (peeled .entry)) (now (area .entry)) .rim ⌝ }
+    ensures { λ _. ⌜ now (ring .exit) ≡ after-list (now (xs .entry)) (now (ys .entry)) (now (corners .entry)) (now (kept .entry)) (now (rim .entry)) (now (ring .entry)) (now (least .entry)) (now (peeled .entry)) (now (area .entry)) .ring ⌝ }
+    ensures { λ _. ⌜ now (least .exit) ≡ after-list (now (xs .entry)) (now (ys .entry)) (now (corners .entry)) (now (kept .entry)) (now (rim .entry)) (now (ring .entry)) (now (least .entry)) (now (peeled .entry)) (now (area .entry)) .least ⌝ }
+    ensures { λ _. ⌜ now (peeled .exit) ≡ after-list (now (xs .entry)) (now (ys .entry)) (now (corners .entry)) (now (kept .entry)) (now (rim .entry)) (now (ring .entry)) (now (least .entry)) (now (peeled .entry)) (now (area .entry)) .peeled ⌝ }
+    ensures { λ _. ⌜ now (area .exit) ≡ after-list (now (xs .entry)) (now (ys .entry)) (now (corners .entry)) (now (kept .entry)) (now (rim .entry)) (now (ring .entry)) (now (least .entry)) (now (peeled .entry)) (now (area .entry)) .area ⌝ }
+{
+    let room = list_room(xs, corners, kept, rim, ring, least, peeled, area);
+    let checked = check_lent(xs, ys, corners, room);
+    match checked {
+        Checked::Refused(refusal) => {
+            return Listed::Refused(refusal);
+        }
+        Checked::Accepted(hull) => {
+            let count = list_accepted(xs, ys, corners, hull, kept, rim, ring, least, peeled, area);
+            return Listed::Entries(count);
+        }
+    }
 }

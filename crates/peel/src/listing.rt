@@ -1,6 +1,7 @@
 // All outlines of an acceptable office.
 use crate::Tally;
-use crate::answers::{Ended, Step};
+use crate::answers::Ended;
+use crate::answers::Step;
 use crate::ring::lay_ring;
 use crate::start::begin;
 use crate::step::step;

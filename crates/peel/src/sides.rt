@@ -1,5 +1,8 @@
 // Sides of triangles: their lengths, ends and areas, and which are on the rim.
-use sheet::plane::{at_corner, doubled, squared, wide};
+use sheet::plane::at_corner;
+use sheet::plane::doubled;
+use sheet::plane::squared;
+use sheet::plane::wide;
 ghost use mathlib.Core.Path.{_≡_};
 ghost use Prim.Native.Nat.{_/_, _%_, _<_, _≤_, min, max};
 ghost use lib.ListN.{length, take};

@@ -1,6 +1,7 @@
 // The marks and the tally before the first peel.
 use crate::Tally;
-use crate::sides::{area_of, is_rim};
+use crate::sides::area_of;
+use crate::sides::is_rim;
 ghost use mathlib.Core.Path.{_≡_};
 ghost use mathlib.Core.List.{_++_};
 ghost use Prim.Native.Nat.{_/_, _%_, _<_, _≤_};

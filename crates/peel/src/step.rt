@@ -1,6 +1,8 @@
 // One step.
 use crate::Tally;
-use crate::answers::{Best, Moved, Step};
+use crate::answers::Best;
+use crate::answers::Moved;
+use crate::answers::Step;
 use crate::best::best_side;
 use crate::sides::area_of;
 ghost use Rattle.sheet.specs.Office.{office};
