@@ -1,5 +1,5 @@
 -- From what the check and the work on an accepted office promise to what draw and list promise. Assumes nothing.
-use mathlib.Core.Path.{_≡_, refl, sym, ap, _∙_}
+use mathlib.Core.Path.{_≡_, sym, ap, _∙_}
 use mathlib.Core.Bool.{Bool, true, _&&_}
 use mathlib.Core.List.{List, []}
 use Prim.Native.Nat.{ℕ, _+_, _-_, _/_, _≤_}
@@ -8,7 +8,7 @@ use lib.Dec.{leb}
 use lib.ListN.{length}
 use Rattle.laws.proofs.Test.{and-iff, leb-iff}
 use Rattle.sheet.specs.Office.{Office, office, points, triangles, rims}
-use Rattle.sheet.specs.Verdict.{accepted, refused, verdict}
+use Rattle.sheet.specs.Verdict.{verdict}
 use Rattle.sheet.specs.Acceptable.{Acceptable}
 use Rattle.sheet.specs.Answer.{answer}
 use Rattle.sheet.specs.declared.Checked.{Checked}
@@ -18,7 +18,8 @@ use Rattle.peel.specs.Peel.{drawn, peeled as peeled-of, doubled, rims as
 use Rattle.peel.specs.List.{entries}
 use Rattle.peel.specs.Answer.{tally, count, refusal, draw-room, list-room, drawing, listing, after-draw, after-list}
 use Rattle.peel.specs.Code.{Lent, Outlined, Written}
-use Rattle.peel.proofs.Outcomes.{accepted-lent, draw-given, draw-refused, list-given, list-refused}
+use Rattle.sheet.proofs.Accepted.{accepted-lent}
+use Rattle.peel.proofs.Outcomes.{draw-given, draw-refused, list-given, list-refused}
 
 -- the room found is the definition's, and what the check answers is the verdict
 by-verdict : (o : Office) {room enough : Bool} {x y : Checked} → room ≡ enough → answer x ≡ verdict room o → x ≡ y → verdict enough o ≡ answer y
@@ -55,7 +56,7 @@ module _ (xs ys corners : List ℕ) where
 
     pub draw-may : (m : ℕ) → x ≡ Accepted m → Acceptable o × (m ≡ rims o) × (length corners / 3 ≤ length kept) × (length xs ≤ length rim) × (length xs ≤ length round)
     draw-may m f =
-        let (h, a, l) = accepted-lent (draw-room o kept rim round) o m (by-verdict o t e f) in
+        let (h, a, l) = accepted-lent (draw-room o kept rim round) o m .0 (by-verdict o t e f) in
         let (u, v, w) = draw-enough o kept rim round h in
         (a, l, u, v, w)
 
@@ -92,7 +93,7 @@ module _ (xs ys corners : List ℕ) where
         → (Acceptable o × (m ≡ rims o) × (length corners / 3 ≤ length kept) × (length xs ≤ length rim) × (length xs ≤ length round))
         × ((length xs ≤ length least + 2) × (length xs ≤ length peeled + 2) × (length xs ≤ length area + 2))
     list-may m f =
-        let (h, a, l) = accepted-lent (list-room o kept rim round least peeled area) o m (by-verdict o t e f) in
+        let (h, a, l) = accepted-lent (list-room o kept rim round least peeled area) o m .0 (by-verdict o t e f) in
         let (d, x, y, z) = list-enough o kept rim round least peeled area h in
         let (u, v, w) = draw-enough o kept rim round d in
         ((a, l, u, v, w), (x, y, z))

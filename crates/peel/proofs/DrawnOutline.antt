@@ -1,16 +1,15 @@
 -- The outline that a draw gives, in one statement: how it is reached, what is left, and what its ring is. Assumes nothing.
-use mathlib.Core.Path.{_≡_, refl, sym, ap, subst, _∙_}
+use mathlib.Core.Path.{_≡_, refl, sym, subst, _∙_}
 use mathlib.Core.Bool.{Bool, true, false, cond}
 use mathlib.Core.List.{List}
 use mathlib.Core.Option.{Option, none, some}
 use Prim.Native.Nat.{ℕ, zero, suc, _+_, _%_, _<_, _≤_}
-use native.Mathlib.Omega.{arith}
 use lib.Dec.{ltb}
 use lib.ListN.{length, getD}
 use borrow.Author.Tests.{ltb-true}
 use Rattle.sheet.specs.Office.{Office, points, sides, triangles, tail, head, rims as hull-sides}
 use Rattle.sheet.specs.Acceptable.{Acceptable}
-use Rattle.peel.specs.Peel.{rim, on-rim, removable, long, best, peel, turned, peels, whole, drawn, ring, peeled}
+use Rattle.peel.specs.Peel.{rim, on-rim, removable, long, best, peel, turned, peels, drawn, ring, peeled}
 use Rattle.peel.specs.Reached.{Reached, begun, more, Stripped, none-yet, one-more}
 use Rattle.peel.proofs.Marks.{Way, Held}
 use Rattle.peel.proofs.Reached.{Sound, sound}

@@ -5,7 +5,7 @@ use mathlib.Core.List.{List}
 use mathlib.Core.Option.{Option, none, some}
 use Prim.Native.Nat.{ℕ, zero, suc, _<_}
 use lib.Dec.{ltb, eqb}
-use Rattle.laws.specs.First.{first, any, atFirst}
+use Rattle.laws.specs.First.{first, atFirst}
 use Rattle.laws.proofs.Test.{and-iff, not-iff, eqb-iff, any-iff, false-iff}
 use Rattle.sheet.specs.Office.{Office, points, sides, triangles, tail}
 use Rattle.sheet.specs.Acceptable.{Acceptable}

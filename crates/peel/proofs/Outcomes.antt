@@ -2,42 +2,28 @@
 -- answers and the lent lists of draw and list. Assumes nothing.
 use mathlib.Core.Path.{_≡_, refl, sym, ap, _∙_}
 use mathlib.Core.Logic.{_↔_}
-use mathlib.Core.Bool.{Bool, true, false, not, _||_}
+use mathlib.Core.Bool.{Bool, true}
 use mathlib.Core.List.{List}
-use Prim.Native.Nat.{ℕ, _%_}
+use Prim.Native.Nat.{ℕ}
 use native.Mathlib.Omega.{arith}
-use lib.Dec.{ltb, eqb}
-use lib.ListN.{length}
-use Rattle.sheet.specs.Office.{Office, office, points, sides, rims}
-use Rattle.sheet.specs.Verdict.{Verdict, accepted, refused, whenever, verdict}
+use Rattle.sheet.specs.Office.{Office, office, rims}
+use Rattle.sheet.specs.Verdict.{Verdict, accepted, refused, verdict}
 use Rattle.sheet.specs.Acceptable.{Acceptable}
-use Rattle.sheet.proofs.Accepted.{accepts}
+use Rattle.sheet.proofs.Accepted.{accepted-lent}
 use Rattle.peel.specs.Peel.{drawn}
-use Rattle.peel.specs.Outcome.{Outcome, draws, refuses, by-verdict, outcome}
+use Rattle.peel.specs.Outcome.{draws, refuses, by-verdict, outcome}
 use Rattle.peel.specs.Answer.{draw-room, list-room, drawing, listing, after-draw, after-list}
 use Rattle.peel.proofs.NeverStarves.{never-starves}
-
-no-room : (b c d : Bool) {m : ℕ} → whenever b 1 (whenever c 2 (whenever d 3 (refused 4 0))) ≡ accepted m → ⊥
-no-room true c d e = let z : _≡_ {A = ℕ} 0 1 = cc in omega arith
-no-room false true d e = let z : _≡_ {A = ℕ} 0 1 = cc in omega arith
-no-room false false true e = let z : _≡_ {A = ℕ} 0 1 = cc in omega arith
-no-room false false false e = let z : _≡_ {A = ℕ} 0 1 = cc in omega arith
-
--- accepted with lent buffers: they have room, the office is acceptable, and the rim's length comes back
-pub accepted-lent : (room : Bool) (o : Office) (m : ℕ) → verdict room o ≡ accepted m → (room ≡ true) × Acceptable o × (m ≡ rims o)
-unfolding verdict
-accepted-lent true o m e = let (a, l) = accepts o m .0 e in (refl, a, l)
-accepted-lent false o m e = absurd (no-room (not (eqb (length (o .xs)) (length (o .ys)))) (ltb (points o) 3 || ltb 1024 (points o)) (eqb (sides o) 0 || not (eqb (sides o % 3) 0) || ltb 6129 (sides o)) e)
 
 pub draws-iff : (room : Bool) (o : Office) (limit : ℕ) (k : List ℕ) → (outcome room o limit ≡ draws k) ↔ ((room ≡ true) × Acceptable o × (k ≡ drawn o limit))
 unfolding outcome by-verdict
 draws-iff room o limit k = (
   to (verdict room o) refl,
-  (λ (t, a, e). ap (λ b. by-verdict o limit (verdict b o)) t ∙ ap (by-verdict o limit) (accepts o (rims o) .1 (a, refl)) ∙ never-starves a limit ∙ ap draws (sym e)),
+  (λ (t, a, e). ap (by-verdict o limit) (accepted-lent room o (rims o) .1 (t, a, refl)) ∙ never-starves a limit ∙ ap draws (sym e)),
 )
   where
     to : (v : Verdict) → verdict room o ≡ v → by-verdict o limit v ≡ draws k → (room ≡ true) × Acceptable o × (k ≡ drawn o limit)
-    to (accepted m) e h = let (t, a, _) = accepted-lent room o m e in let z = sym h ∙ never-starves a limit in (t, a, cc)
+    to (accepted m) e h = let (t, a, _) = accepted-lent room o m .0 e in let z = sym h ∙ never-starves a limit in (t, a, cc)
     to (refused n p) e h = absurd (let z : _≡_ {A = ℕ} 0 1 = cc in omega arith)
 
 pub refuses-iff : (room : Bool) (o : Office) (limit n p : ℕ) → (outcome room o limit ≡ refuses n p) ↔ (verdict room o ≡ refused n p)
@@ -45,7 +31,7 @@ unfolding outcome by-verdict
 refuses-iff room o limit n p = (to (verdict room o) refl, λ e. ap (by-verdict o limit) e)
   where
     to : (v : Verdict) → verdict room o ≡ v → by-verdict o limit v ≡ refuses n p → v ≡ refused n p
-    to (accepted m) e h = absurd (let (_, a, _) = accepted-lent room o m e in let x = sym h ∙ never-starves a limit in let z : _≡_ {A = ℕ} 0 1 = cc in omega arith)
+    to (accepted m) e h = absurd (let (_, a, _) = accepted-lent room o m .0 e in let x = sym h ∙ never-starves a limit in let z : _≡_ {A = ℕ} 0 1 = cc in omega arith)
     to (refused m q) e h = cc
 
 -- the same of the public calls
@@ -57,7 +43,7 @@ module _ (xs ys corners : List ℕ) where
     pub draw-given : {m : ℕ} → verdict (draw-room o kept rim round) o ≡ accepted m → after-draw xs ys corners limit kept rim round ≡ drawing o (draws (drawn o limit)) kept rim round
     unfolding after-draw
     draw-given {m} e =
-        let (t, a, _) = accepted-lent (draw-room o kept rim round) o m e in
+        let (t, a, _) = accepted-lent (draw-room o kept rim round) o m .0 e in
         ap (λ x. drawing o x kept rim round) (draws-iff (draw-room o kept rim round) o limit (drawn o limit) .1 (t, a, refl))
 
     pub draw-refused : {n p : ℕ} → verdict (draw-room o kept rim round) o ≡ refused n p → after-draw xs ys corners limit kept rim round ≡ drawing o (refuses n p) kept rim round
@@ -69,7 +55,7 @@ module _ (xs ys corners : List ℕ) where
         → after-list xs ys corners kept rim round least peeled area ≡ listing o (draws (drawn o 0)) kept rim round least peeled area
     unfolding after-list
     list-given {m} e =
-        let (t, a, _) = accepted-lent (list-room o kept rim round least peeled area) o m e in
+        let (t, a, _) = accepted-lent (list-room o kept rim round least peeled area) o m .0 e in
         ap (λ x. listing o x kept rim round least peeled area) (draws-iff (list-room o kept rim round least peeled area) o 0 (drawn o 0) .1 (t, a, refl))
 
     pub list-refused : {n p : ℕ} → verdict (list-room o kept rim round least peeled area) o ≡ refused n p

@@ -2,7 +2,7 @@
 use mathlib.Core.Path.{_≡_, refl, sym, ap, _∙_}
 use mathlib.Core.Bool.{cond}
 use mathlib.Core.List.{List, [], _++_}
-use Prim.Native.Nat.{ℕ, _+_, _<_, _≤_}
+use Prim.Native.Nat.{ℕ, _<_, _≤_}
 use native.Mathlib.Omega.{arith}
 use lib.ListN.{length, take, drop, length-append}
 use lib.Seq.{take-at}
@@ -12,7 +12,6 @@ use Rattle.laws.proofs.Walk.{length-walk}
 use Rattle.sheet.specs.Office.{Office, office, points}
 use Rattle.sheet.specs.Verdict.{Verdict, accepted, refused, verdict}
 use Rattle.peel.specs.Peel.{on-rim, rims, after, ring, drawn}
-use Rattle.peel.specs.Outcome.{draws, refuses}
 use Rattle.peel.specs.Answer.{tally, drawing, draw-room, after-draw, used}
 use Rattle.peel.proofs.Outcomes.{draw-given, draw-refused}
 

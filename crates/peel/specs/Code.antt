@@ -1,14 +1,14 @@
 -- What the code's values stand for. Assumes nothing.
 use Prim.Native.Nat.{ℕ, _+_, _-_, _/_, _<_, _≤_}
-use mathlib.Core.Bool.{Bool, true, cond, _&&_, _||_}
-use mathlib.Core.List.{List, [], _++_, map}
+use mathlib.Core.Bool.{Bool, true, cond}
+use mathlib.Core.List.{List, _++_, map}
 use mathlib.Core.Option.{Option, none, some}
 use mathlib.Core.Path.{_≡_}
-use lib.Dec.{leb, ltb, eqb}
+use lib.Dec.{ltb}
 use lib.ListN.{length, getD, set, take, drop}
 use lib.Seq.{sets}
 use Rattle.laws.specs.First.{table}
-use Rattle.sheet.specs.Office.{Office, office, bare, mate-of, points, sides, triangles, tail, head}
+use Rattle.sheet.specs.Office.{Office, bare, mate-of, points, sides, triangles, tail, head}
 use Rattle.sheet.specs.Acceptable.{Acceptable}
 use Rattle.peel.specs.Peel.{rim, on-rim, precedes, low, high, long, best, turned, peels, rims, ring, peeled, doubled}
 use Rattle.peel.specs.List.{Entry, entries-from}

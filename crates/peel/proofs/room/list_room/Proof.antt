@@ -1,5 +1,4 @@
 -- `peel::room::list_room` meets its contract. Assumes nothing.
-use mathlib.Core.Path.{_∙_}
 use borrow.Author.Needs.{needs}
 use Rattle.peel.proofs.room.list_room.Statement.{statement}
 use Rattle.peel.proofs.room.list_room.Tie as tie
