@@ -16,7 +16,10 @@ use Rattle.sheet.specs.declared.Checked.the-variants.{Accepted, Refused}
 use Rattle.sheet.specs.declared.Refusal.{Refusal}
 use Rattle.peel.specs.Peel.{drawn, peeled as peeled-of, doubled, rims as rims-of}
 use Rattle.peel.specs.List.{entries}
-use Rattle.peel.specs.Answer.{tally, count, refusal, draw-room, list-room, drawing, listing, after-draw, after-list}
+use Rattle.peel.specs.Answer.{tally, count, draw-answer, draw-room, list-room, drawing, listing, DrawPromise, ListPromise}
+use Rattle.peel.specs.declared.Drawn.the-variants.{Outline, Refused as Undrawn}
+use Rattle.peel.specs.declared.Listed.the-variants.{Entries, Refused as Unlisted}
+use Rattle.peel.specs.declared.Tally.{Tally}
 use Rattle.peel.specs.Code.{Lent, Outlined, Written}
 use Rattle.sheet.proofs.Accepted.{accepted-lent}
 use Rattle.peel.proofs.Outcomes.{draw-given, draw-refused, list-given, list-refused}
@@ -44,15 +47,11 @@ module _ (xs ys corners : List ℕ) where
   o = office xs ys corners
 
   module _ (limit : ℕ) (kept rim round : List ℕ) {room : Bool} {x : Checked} (t : room ≡ draw-room (office xs [] corners) kept rim round) (e : answer x ≡ verdict room o) where
-    pub draw-not : (r : Refusal) → x ≡ Refused r
-        → (refusal (r .number) (r .place) ≡ after-draw xs ys corners limit kept rim round .answer)
-        × ((kept ≡ after-draw xs ys corners limit kept rim round .kept)
-        × ((rim ≡ after-draw xs ys corners limit kept rim round .rim)
-        × (round ≡ after-draw xs ys corners limit kept rim round .ring)))
+    pub draw-not : (r : Refusal) → x ≡ Refused r → DrawPromise xs ys corners limit kept rim round (Undrawn r) kept rim round
     unfolding drawing
     draw-not r f =
         let g = draw-refused xs ys corners limit kept rim round (by-verdict o t e f) in
-        (sym (ap (λ a. a .answer) g), (sym (ap (λ a. a .kept) g), (sym (ap (λ a. a .rim) g), sym (ap (λ a. a .ring) g))))
+        record { answers = sym (ap (λ a. a .answer) g); kept-is = sym (ap (λ a. a .kept) g); rim-is = sym (ap (λ a. a .rim) g); ring-is = sym (ap (λ a. a .ring) g) }
 
     pub draw-may : (m : ℕ) → x ≡ Accepted m → Acceptable o × (m ≡ rims o) × (length corners / 3 ≤ length kept) × (length xs ≤ length rim) × (length xs ≤ length round)
     draw-may m f =
@@ -60,34 +59,33 @@ module _ (xs ys corners : List ℕ) where
         let (u, v, w) = draw-enough o kept rim round h in
         (a, l, u, v, w)
 
-    pub draw-done : (m : ℕ) → x ≡ Accepted m → {kept′ rim′ round′ : List ℕ} {p a s : ℕ} → Outlined o (drawn o limit) kept rim round kept′ rim′ round′ p a s
-        → (tally p a s ≡ after-draw xs ys corners limit kept rim round .answer)
-        × ((kept′ ≡ after-draw xs ys corners limit kept rim round .kept)
-        × ((rim′ ≡ after-draw xs ys corners limit kept rim round .rim)
-        × (round′ ≡ after-draw xs ys corners limit kept rim round .ring)))
+    pub draw-done : (m : ℕ) → x ≡ Accepted m → (n : Tally) {kept′ rim′ round′ : List ℕ} → Outlined o (drawn o limit) kept rim round kept′ rim′ round′ (n .peeled) (n .area) (n .ring)
+        → DrawPromise xs ys corners limit kept rim round (Outline n) kept′ rim′ round′
     unfolding drawing
-    draw-done m f {p = p} {a} {s} d =
+    draw-done m f n d =
         let g = draw-given xs ys corners limit kept rim round (by-verdict o t e f) in
-        let z : tally p a s ≡ tally (peeled-of o (drawn o limit)) (doubled o (drawn o limit)) (rims-of o (drawn o limit)) = cc in (
-          z ∙ sym (ap (λ a. a .answer) g),
-          (d .lent .marks ∙ sym (ap (λ a. a .kept) g), (d .lent .on ∙ sym (ap (λ a. a .rim) g), d .lent .goes ∙ sym (ap (λ a. a .ring) g))),
-        )
+        let z : draw-answer (Outline n) ≡ tally (peeled-of o (drawn o limit)) (doubled o (drawn o limit)) (rims-of o (drawn o limit)) = cc in
+        record {
+          answers = z ∙ sym (ap (λ a. a .answer) g);
+          kept-is = d .lent .marks ∙ sym (ap (λ a. a .kept) g);
+          rim-is = d .lent .on ∙ sym (ap (λ a. a .rim) g);
+          ring-is = d .lent .goes ∙ sym (ap (λ a. a .ring) g);
+        }
 
   module _ (kept rim round least peeled area : List ℕ) {room : Bool} {x : Checked} (t : room ≡ list-room (office xs [] corners) kept rim round least peeled area) (e : answer x ≡ verdict room o) where
-    pub list-not : (r : Refusal) → x ≡ Refused r
-        → (refusal (r .number) (r .place) ≡ after-list xs ys corners kept rim round least peeled area .answer)
-        × ((kept ≡ after-list xs ys corners kept rim round least peeled area .kept)
-        × ((rim ≡ after-list xs ys corners kept rim round least peeled area .rim)
-        × ((round ≡ after-list xs ys corners kept rim round least peeled area .ring)
-        × ((least ≡ after-list xs ys corners kept rim round least peeled area .least)
-        × ((peeled ≡ after-list xs ys corners kept rim round least peeled area .peeled)
-        × (area ≡ after-list xs ys corners kept rim round least peeled area .area))))))
+    pub list-not : (r : Refusal) → x ≡ Refused r → ListPromise xs ys corners kept rim round least peeled area (Unlisted r) kept rim round least peeled area
     unfolding listing
     list-not r f =
-        let g = list-refused xs ys corners kept rim round least peeled area (by-verdict o t e f) in (
-          sym (ap (λ a. a .answer) g),
-          (sym (ap (λ a. a .kept) g), (sym (ap (λ a. a .rim) g), (sym (ap (λ a. a .ring) g), (sym (ap (λ a. a .least) g), (sym (ap (λ a. a .peeled) g), sym (ap (λ a. a .area) g)))))),
-        )
+        let g = list-refused xs ys corners kept rim round least peeled area (by-verdict o t e f) in
+        record {
+          answers = sym (ap (λ a. a .answer) g);
+          kept-is = sym (ap (λ a. a .kept) g);
+          rim-is = sym (ap (λ a. a .rim) g);
+          ring-is = sym (ap (λ a. a .ring) g);
+          least-is = sym (ap (λ a. a .least) g);
+          peeled-is = sym (ap (λ a. a .peeled) g);
+          area-is = sym (ap (λ a. a .area) g);
+        }
 
     pub list-may : (m : ℕ) → x ≡ Accepted m
         → (Acceptable o × (m ≡ rims o) × (length corners / 3 ≤ length kept) × (length xs ≤ length rim) × (length xs ≤ length round))
@@ -98,27 +96,17 @@ module _ (xs ys corners : List ℕ) where
         let (u, v, w) = draw-enough o kept rim round d in
         ((a, l, u, v, w), (x, y, z))
 
-    pub list-done : (m : ℕ) → x ≡ Accepted m → {kept′ rim′ round′ least′ peeled′ area′ : List ℕ} {n : ℕ} → Lent o (drawn o 0) kept rim round kept′ rim′ round′
-        → Written (entries o) least peeled area least′ peeled′ area′ n
-        → (count n ≡ after-list xs ys corners kept rim round least peeled area .answer)
-        × ((kept′ ≡ after-list xs ys corners kept rim round least peeled area .kept)
-        × ((rim′ ≡ after-list xs ys corners kept rim round least peeled area .rim)
-        × ((round′ ≡ after-list xs ys corners kept rim round least peeled area .ring)
-        × ((least′ ≡ after-list xs ys corners kept rim round least peeled area .least)
-        × ((peeled′ ≡ after-list xs ys corners kept rim round least peeled area .peeled)
-        × (area′ ≡ after-list xs ys corners kept rim round least peeled area .area))))))
+    pub list-done : (m : ℕ) → x ≡ Accepted m → (n : ℕ) {kept′ rim′ round′ least′ peeled′ area′ : List ℕ} → Lent o (drawn o 0) kept rim round kept′ rim′ round′
+        → Written (entries o) least peeled area least′ peeled′ area′ n → ListPromise xs ys corners kept rim round least peeled area (Entries n) kept′ rim′ round′ least′ peeled′ area′
     unfolding listing drawing
-    list-done m f d w =
-        let g = list-given xs ys corners kept rim round least peeled area (by-verdict o t e f) in (
-          ap count (w .counts) ∙ sym (ap (λ a. a .answer) g),
-          (
-            d .marks ∙ sym (ap (λ a. a .kept) g),
-            (
-              d .on ∙ sym (ap (λ a. a .rim) g),
-              (
-                d .goes ∙ sym (ap (λ a. a .ring) g),
-                (w .leasts ∙ sym (ap (λ a. a .least) g), (w .peels ∙ sym (ap (λ a. a .peeled) g), w .areas ∙ sym (ap (λ a. a .area) g))),
-              ),
-            ),
-          ),
-        )
+    list-done m f n d w =
+        let g = list-given xs ys corners kept rim round least peeled area (by-verdict o t e f) in
+        record {
+          answers = ap count (w .counts) ∙ sym (ap (λ a. a .answer) g);
+          kept-is = d .marks ∙ sym (ap (λ a. a .kept) g);
+          rim-is = d .on ∙ sym (ap (λ a. a .rim) g);
+          ring-is = d .goes ∙ sym (ap (λ a. a .ring) g);
+          least-is = w .leasts ∙ sym (ap (λ a. a .least) g);
+          peeled-is = w .peels ∙ sym (ap (λ a. a .peeled) g);
+          area-is = w .areas ∙ sym (ap (λ a. a .area) g);
+        }

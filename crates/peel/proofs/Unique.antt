@@ -3,7 +3,7 @@ use mathlib.Core.Path.{_≡_, sym, ap, _∙_}
 use mathlib.Core.List.{List}
 use Prim.Native.Nat.{ℕ}
 use native.Mathlib.Omega.{arith}
-use Rattle.peel.specs.Answer.{draw-answer, list-answer, after-draw, after-list, used}
+use Rattle.peel.specs.Answer.{draw-answer, list-answer, used, DrawPromise, ListPromise}
 use Rattle.sheet.specs.declared.Refusal.{Refusal}
 use Rattle.peel.specs.declared.Drawn.{Drawn}
 use Rattle.peel.specs.declared.Drawn.the-variants.{Outline, Refused}
@@ -32,39 +32,22 @@ list-told (Entries n) (Unlisted r) e = absurd (let z : _≡_ {A = ℕ} 0 1 = cc 
 list-told (Unlisted r) (Entries n) e = absurd (let z : _≡_ {A = ℕ} 0 1 = cc in omega arith)
 list-told (Unlisted r) (Unlisted q) e = ap Unlisted (same-refusal r q (let x : r .number ≡ q .number = cc in x) (let y : r .place ≡ q .place = cc in y))
 
--- what the promise of `draw` says of an answer and the lent lists
-pub record DrawPromise (xs ys corners : List ℕ) (limit : ℕ) (kept rim ring : List ℕ) (r : Drawn) (kept′ rim′ ring′ : List ℕ) : Type 0 where
-  pub answers : draw-answer r ≡ after-draw xs ys corners limit kept rim ring .answer
-  pub marks : kept′ ≡ after-draw xs ys corners limit kept rim ring .kept
-  pub on : rim′ ≡ after-draw xs ys corners limit kept rim ring .rim
-  pub goes : ring′ ≡ after-draw xs ys corners limit kept rim ring .ring
-
 pub unique-draw : {xs ys corners : List ℕ} {limit : ℕ} {kept rim ring : List ℕ} {r q : Drawn} {k i g k′ i′ g′ : List ℕ}
     → DrawPromise xs ys corners limit kept rim ring r k i g → DrawPromise xs ys corners limit kept rim ring q k′ i′ g′ → (r ≡ q) × (k ≡ k′) × (i ≡ i′) × (g ≡ g′)
-unique-draw {r = r} {q} x y = (draw-told r q (x .answers ∙ sym (y .answers)), x .marks ∙ sym (y .marks), x .on ∙ sym (y .on), x .goes ∙ sym (y .goes))
+unique-draw {r = r} {q} x y = (draw-told r q (x .answers ∙ sym (y .answers)), x .kept-is ∙ sym (y .kept-is), x .rim-is ∙ sym (y .rim-is), x .ring-is ∙ sym (y .ring-is))
 
 pub unique-outline : (round : List ℕ) (sides : ℕ) {part other : List ℕ} → part ≡ used round sides → other ≡ used round sides → part ≡ other
 unique-outline round sides x y = x ∙ sym y
-
--- of `list`
-pub record ListPromise (xs ys corners kept rim ring least peeled area : List ℕ) (r : Listed) (kept′ rim′ ring′ least′ peeled′ area′ : List ℕ) : Type 0 where
-  pub answers : list-answer r ≡ after-list xs ys corners kept rim ring least peeled area .answer
-  pub marks : kept′ ≡ after-list xs ys corners kept rim ring least peeled area .kept
-  pub on : rim′ ≡ after-list xs ys corners kept rim ring least peeled area .rim
-  pub goes : ring′ ≡ after-list xs ys corners kept rim ring least peeled area .ring
-  pub leasts : least′ ≡ after-list xs ys corners kept rim ring least peeled area .least
-  pub peels : peeled′ ≡ after-list xs ys corners kept rim ring least peeled area .peeled
-  pub areas : area′ ≡ after-list xs ys corners kept rim ring least peeled area .area
 
 pub unique-list : {xs ys corners kept rim ring least peeled area : List ℕ} {r q : Listed} {k i g l p a k′ i′ g′ l′ p′ a′ : List ℕ}
     → ListPromise xs ys corners kept rim ring least peeled area r k i g l p a → ListPromise xs ys corners kept rim ring least peeled area q k′ i′ g′ l′ p′ a′
     → (r ≡ q) × (k ≡ k′) × (i ≡ i′) × (g ≡ g′) × (l ≡ l′) × (p ≡ p′) × (a ≡ a′)
 unique-list {r = r} {q} x y = (
   list-told r q (x .answers ∙ sym (y .answers)),
-  x .marks ∙ sym (y .marks),
-  x .on ∙ sym (y .on),
-  x .goes ∙ sym (y .goes),
-  x .leasts ∙ sym (y .leasts),
-  x .peels ∙ sym (y .peels),
-  x .areas ∙ sym (y .areas),
+  x .kept-is ∙ sym (y .kept-is),
+  x .rim-is ∙ sym (y .rim-is),
+  x .ring-is ∙ sym (y .ring-is),
+  x .least-is ∙ sym (y .least-is),
+  x .peeled-is ∙ sym (y .peeled-is),
+  x .area-is ∙ sym (y .area-is),
 )

@@ -1,4 +1,5 @@
 -- Document 01, 'Peeling': what draw, outline and list answer, and what each lent list holds afterwards, for all inputs. Assumes nothing.
+use mathlib.Core.Path.{_≡_}
 use Prim.Native.Nat.{ℕ, _-_}
 use mathlib.Core.Bool.{Bool, cond, _&&_}
 use mathlib.Core.List.{List, [], _++_, map}
@@ -56,6 +57,13 @@ unfoldable pub after-draw : List ℕ → List ℕ → List ℕ → ℕ → List 
 after-draw xs ys corners limit kept rim round =
     drawing (office xs ys corners) (outcome (draw-room (office xs ys corners) kept rim round) (office xs ys corners) limit) kept rim round
 
+-- the promise of draw: its answer and each lent list afterwards, by those before
+pub record DrawPromise (xs ys corners : List ℕ) (limit : ℕ) (kept rim round : List ℕ) (r : Drawn) (kept′ rim′ round′ : List ℕ) : Type 0 where
+  pub answers : draw-answer r ≡ after-draw xs ys corners limit kept rim round .answer
+  pub kept-is : kept′ ≡ after-draw xs ys corners limit kept rim round .kept
+  pub rim-is : rim′ ≡ after-draw xs ys corners limit kept rim round .rim
+  pub ring-is : round′ ≡ after-draw xs ys corners limit kept rim round .ring
+
 -- the used part of a ring buffer: none of it where the tally claims too much
 abbrev pub used : List ℕ → ℕ → List ℕ
 used round sides = cond (leb sides (length round)) (take sides round) []
@@ -98,3 +106,13 @@ list-room o kept rim round least peeled area =
 unfoldable pub after-list : List ℕ → List ℕ → List ℕ → List ℕ → List ℕ → List ℕ → List ℕ → List ℕ → List ℕ → AfterList
 after-list xs ys corners kept rim round least peeled area =
     listing (office xs ys corners) (outcome (list-room (office xs ys corners) kept rim round least peeled area) (office xs ys corners) 0) kept rim round least peeled area
+
+-- the promise of list
+pub record ListPromise (xs ys corners kept rim round least peeled area : List ℕ) (r : Listed) (kept′ rim′ round′ least′ peeled′ area′ : List ℕ) : Type 0 where
+  pub answers : list-answer r ≡ after-list xs ys corners kept rim round least peeled area .answer
+  pub kept-is : kept′ ≡ after-list xs ys corners kept rim round least peeled area .kept
+  pub rim-is : rim′ ≡ after-list xs ys corners kept rim round least peeled area .rim
+  pub ring-is : round′ ≡ after-list xs ys corners kept rim round least peeled area .ring
+  pub least-is : least′ ≡ after-list xs ys corners kept rim round least peeled area .least
+  pub peeled-is : peeled′ ≡ after-list xs ys corners kept rim round least peeled area .peeled
+  pub area-is : area′ ≡ after-list xs ys corners kept rim round least peeled area .area

@@ -18,7 +18,7 @@ use sheet::Refusal;
 use sheet::check_lent;
 ghost use mathlib.Core.Path.{_≡_};
 ghost use Prim.Native.Nat.{_+_, _<_};
-ghost use Rattle.peel.specs.Answer.{draw-answer, list-answer, after-draw, after-list, used};
+ghost use Rattle.peel.specs.Answer.{used, DrawPromise, ListPromise};
 
 // The running tally: triangles peeled, twice the area of those kept, and the ring's length.
 pub struct Tally {
@@ -75,10 +75,7 @@ pub fn draw(
     rim: &mut [u8],
     ring: &mut [u16],
 ) -> Drawn
-    ensures { λ r. ⌜ draw-answer r ≡ after-draw (now (xs .entry)) (now (ys .entry)) (now (corners .entry)) limit (now (kept .entry)) (now (rim .entry)) (now (ring .entry)) .answer ⌝ }
-    ensures { λ _. ⌜ now (kept .exit) ≡ after-draw (now (xs .entry)) (now (ys .entry)) (now (corners .entry)) limit (now (kept .entry)) (now (rim .entry)) (now (ring .entry)) .kept ⌝ }
-    ensures { λ _. ⌜ now (rim .exit) ≡ after-draw (now (xs .entry)) (now (ys .entry)) (now (corners .entry)) limit (now (kept .entry)) (now (rim .entry)) (now (ring .entry)) .rim ⌝ }
-    ensures { λ _. ⌜ now (ring .exit) ≡ after-draw (now (xs .entry)) (now (ys .entry)) (now (corners .entry)) limit (now (kept .entry)) (now (rim .entry)) (now (ring .entry)) .ring ⌝ }
+    ensures { λ r. ⌜ DrawPromise (now (xs .entry)) (now (ys .entry)) (now (corners .entry)) limit (now (kept .entry)) (now (rim .entry)) (now (ring .entry)) r (now (kept .exit)) (now (rim .exit)) (now (ring .exit)) ⌝ }
 {
     let room = draw_room(xs, corners, kept, rim, ring);
     let checked = check_lent(xs, ys, corners, room);
@@ -117,13 +114,7 @@ pub fn list(
     peeled: &mut [u32],
     area: &mut [u32],
 ) -> Listed
-    ensures { λ r. ⌜ list-answer r ≡ after-list (now (xs .entry)) (now (ys .entry)) (now (corners .entry)) (now (kept .entry)) (now (rim .entry)) (now (ring .entry)) (now (least .entry)) (now (peeled .entry)) (now (area .entry)) .answer ⌝ }
-    ensures { λ _. ⌜ now (kept .exit) ≡ after-list (now (xs .entry)) (now (ys .entry)) (now (corners .entry)) (now (kept .entry)) (now (rim .entry)) (now (ring .entry)) (now (least .entry)) (now (peeled .entry)) (now (area .entry)) .kept ⌝ }
-    ensures { λ _. ⌜ now (rim .exit) ≡ after-list (now (xs .entry)) (now (ys .entry)) (now (corners .entry)) (now (kept .entry)) (now (rim .entry)) (now (ring .entry)) (now (least .entry)) (now (peeled .entry)) (now (area .entry)) .rim ⌝ }
-    ensures { λ _. ⌜ now (ring .exit) ≡ after-list (now (xs .entry)) (now (ys .entry)) (now (corners .entry)) (now (kept .entry)) (now (rim .entry)) (now (ring .entry)) (now (least .entry)) (now (peeled .entry)) (now (area .entry)) .ring ⌝ }
-    ensures { λ _. ⌜ now (least .exit) ≡ after-list (now (xs .entry)) (now (ys .entry)) (now (corners .entry)) (now (kept .entry)) (now (rim .entry)) (now (ring .entry)) (now (least .entry)) (now (peeled .entry)) (now (area .entry)) .least ⌝ }
-    ensures { λ _. ⌜ now (peeled .exit) ≡ after-list (now (xs .entry)) (now (ys .entry)) (now (corners .entry)) (now (kept .entry)) (now (rim .entry)) (now (ring .entry)) (now (least .entry)) (now (peeled .entry)) (now (area .entry)) .peeled ⌝ }
-    ensures { λ _. ⌜ now (area .exit) ≡ after-list (now (xs .entry)) (now (ys .entry)) (now (corners .entry)) (now (kept .entry)) (now (rim .entry)) (now (ring .entry)) (now (least .entry)) (now (peeled .entry)) (now (area .entry)) .area ⌝ }
+    ensures { λ r. ⌜ ListPromise (now (xs .entry)) (now (ys .entry)) (now (corners .entry)) (now (kept .entry)) (now (rim .entry)) (now (ring .entry)) (now (least .entry)) (now (peeled .entry)) (now (area .entry)) r (now (kept .exit)) (now (rim .exit)) (now (ring .exit)) (now (least .exit)) (now (peeled .exit)) (now (area .exit)) ⌝ }
 {
     let room = list_room(xs, corners, kept, rim, ring, least, peeled, area);
     let checked = check_lent(xs, ys, corners, room);
