@@ -1,0 +1,8 @@
+-- Laws that the proofs of exchange share, and the theorems about its definitions.
+pub mod Octets
+pub mod Floats
+pub mod Asking
+pub mod Scanned
+pub mod Positions
+pub mod Heads
+pub mod Polygons
