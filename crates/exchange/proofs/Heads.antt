@@ -4,7 +4,7 @@ use mathlib.Core.Path.{_≡_, refl, sym, ap, _∙_, subst}
 use mathlib.Core.Bool.{Bool, true, false, true≢false, _&&_, cond}
 use mathlib.Core.List.{List, [], _∷_, _++_}
 use native.Mathlib.Omega.{arith}
-use borrow.Author.Tests.{leb-true, eqb-true}
+use borrow.Author.Tests.{leb-true, eqb-true, le-leb, eq-eqb}
 use lib.Dec.{leb, eqb}
 use lib.ListN.{length}
 use Rattle.laws.proofs.Test.{plain, and-iff}
@@ -14,7 +14,7 @@ use Rattle.exchange.specs.Answers.{Question, must, Answer, gives, refuse
 use Rattle.exchange.specs.Bytes.{numberAt}
 use Rattle.exchange.specs.Coordinates.{coordinateAt, onGrid}
 use Rattle.exchange.specs.Reading.{coordinates, count, order-at, length-at, head-asks}
-use Rattle.exchange.proofs.Asking.{andThen, asked-both}
+use Rattle.exchange.proofs.Asking.{passes, passes-below, ends}
 
 module _ {A : Type 0} {b : A} where
   pub passed-one : (t : Bool) (k p : ℕ) (qs : List Question) (a : A) → gives b ≡ asked (must t k p ∷ qs) a → (t ≡ true) × (gives b ≡ asked qs a)
@@ -77,6 +77,27 @@ head-good s at room n e =
       most = omega arith;
       fits = omega arith;
     }
+
+-- ... and the other way round
+pub head-answer : (s : List ℕ) (at room n : ℕ) → Headed s at room n → gives n ≡ asked (head-asks s at room) (length-at s at)
+head-answer s at room n h =
+    let m : ℕ = count (order-at s at) s at in
+    let is : n ≡ m - 1 = omega (arith, h .counted) in
+    let there = h .there in
+    let between : (leb 4 m && leb m 1025) ≡ true =
+    and-iff .1 (le-leb 4 m (omega (arith, h .counted, h .least)), le-leb m 1025 (omega (arith, h .counted, h .most))) in
+    let o : ℕ = order-at s at in
+    let long : ℕ = length s in
+    passes-below (at + 1) long _ _ _ _ (omega arith)
+    (passes-below o 1 _ _ _ _ (h .order)
+    (passes-below (at + 1 + 4) long _ _ _ _ (omega arith)
+    (passes _ _ _ _ _ (eq-eqb _ _ (h .three))
+    (passes-below (at + 5 + 4) long _ _ _ _ (omega arith)
+    (passes _ _ _ _ _ (eq-eqb _ _ (h .one))
+    (passes-below (at + 9 + 4) long _ _ _ _ (omega arith)
+    (passes _ _ _ _ _ between
+    (passes-below (m - 1) room _ _ _ _ (omega (arith, h .counted, h .fits))
+    (ends (m - 1) (ap gives is))))))))))
 
 -- ---- coordinates that were passed
 

@@ -3,6 +3,12 @@ pub mod Octets
 pub mod Floats
 pub mod Asking
 pub mod Scanned
+pub mod Lengths
 pub mod Positions
 pub mod Heads
 pub mod Polygons
+pub mod Words
+pub mod Lows
+pub mod ReadAfterWrite
+pub mod WriteAfterRead
+pub mod ByteOrders

@@ -4,7 +4,7 @@ use mathlib.Core.Path.{_≡_, refl, sym, ap, _∙_}
 use mathlib.Core.Bool.{Bool, true, false, _&&_}
 use mathlib.Core.List.{List, [], _∷_, _++_}
 use native.Mathlib.Omega.{arith}
-use borrow.Author.Tests.{eqb-true}
+use borrow.Author.Tests.{eqb-true, eq-eqb}
 use lib.Dec.{leb, eqb}
 use lib.ListN.{length, drop}
 use lib.Seq.{sets}
@@ -16,7 +16,7 @@ use Rattle.exchange.specs.Coordinates.{gridAt}
 use Rattle.exchange.specs.Reading.{coordinates, grids, count, order-at, length-at, head-asks, closes, polygon-asks, end, read-answer}
 use Rattle.exchange.proofs.Asking.{passes, stops, stops-above, passes-below, ends, passes-all, stops-first}
 use Rattle.exchange.proofs.Scanned.{scanned, grids-length}
-use Rattle.exchange.proofs.Heads.{Headed, head-good, passed-one, passed-all, passed-both, coordinates-there}
+use Rattle.exchange.proofs.Heads.{Headed, head-good, head-answer, passed-one, passed-all, passed-both, coordinates-there}
 
 -- the first position of a ring of length n and the last have the same grid numbers
 abbrev pub closing : List ℕ → ℕ → ℕ → Bool
@@ -34,8 +34,8 @@ module _ (s : List ℕ) (at room n : ℕ) (answer : gives n ≡ asked (head-asks
   twice : 2 * (n + 1) ≡ 2 * count (order-at s at) s at
   twice = omega (arith, h .counted)
 
-  head-answer : gives (length-at s at) ≡ asked (head-asks s at room) (length-at s at)
-  head-answer = ap gives (sym is) ∙ answer
+  head-given : gives (length-at s at) ≡ asked (head-asks s at room) (length-at s at)
+  head-given = ap gives (sym is) ∙ answer
 
   scan-is : scanned (2 * (n + 1)) (order-at s at) s (at + 13) ≡ scanned (2 * count (order-at s at) s at) (order-at s at) s (at + 13)
   scan-is = ap (λ (k : ℕ). scanned k (order-at s at) s (at + 13)) twice
@@ -43,13 +43,13 @@ module _ (s : List ℕ) (at room n : ℕ) (answer : gives n ≡ asked (head-asks
   -- a fault of a position
   pub scan-refused : (k p : ℕ) → refused k p ≡ scanned (2 * (n + 1)) (order-at s at) s (at + 13) → refused k p ≡ asked (polygon-asks s at room) (length-at s at)
   scan-refused k p e =
-      passes-all (head-asks s at room) _ (length-at s at) (length-at s at) head-answer
+      passes-all (head-asks s at room) _ (length-at s at) (length-at s at) head-given
       (stops-first (coordinates (2 * count (order-at s at) s at) (order-at s at) s (at + 13)) (closes s at ∷ []) tt (length-at s at) k p (e ∙ scan-is) refl)
 
   module _ (fine : gives tt ≡ scanned (2 * (n + 1)) (order-at s at) s (at + 13)) {t : Bool} (test : t ≡ closing s at n) where
     then-closes : {x : Answer ℕ} → x ≡ asked (closes s at ∷ []) (length-at s at) → x ≡ asked (polygon-asks s at room) (length-at s at)
     then-closes e =
-        passes-all (head-asks s at room) _ (length-at s at) (length-at s at) head-answer
+        passes-all (head-asks s at room) _ (length-at s at) (length-at s at) head-given
         (passes-all (coordinates (2 * count (order-at s at) s at) (order-at s at) s (at + 13)) (closes s at ∷ []) tt (length-at s at) (fine ∙ scan-is) e)
 
     closes-is : t ≡ closing s at (length-at s at)
@@ -88,6 +88,12 @@ polygon-good s at room n e =
       same-y = eqb-true _ _ (same .1);
       whole = omega (arith, coordinates-there (2 * (n + 1)) o s (at + 13) tt (h .there) f);
     }
+
+-- ... and the other way round
+pub ringed-answer : (s : List ℕ) (at room n : ℕ) → Ringed s at room n → gives n ≡ asked (polygon-asks s at room) (length-at s at)
+ringed-answer s at room n r =
+    let same : closing s at n ≡ true = and-iff .1 (eq-eqb _ _ (r .same-x), eq-eqb _ _ (r .same-y)) in
+    closed s at room n (head-answer s at room n (r .head)) (r .fine) refl same
 
 -- ---- a block that is one polygon
 

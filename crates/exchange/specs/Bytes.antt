@@ -19,6 +19,10 @@ abbrev pub turned : Bool → List ℕ → List ℕ
 turned true bs = reverse bs
 turned false bs = bs
 
--- the number of k bytes from a place on: byte order 0 has the high byte first, any other the low byte first
+-- the k bytes of a number in a byte order: 0 has the high byte first, any other the low byte first
+abbrev pub inOrder : ℕ → ℕ → ℕ → List ℕ
+inOrder order k n = turned (eqb order 0) (lowBytes k n)
+
+-- the number of the k bytes from a place on
 abbrev pub numberAt : ℕ → ℕ → List ℕ → ℕ → ℕ
 numberAt k order s at = lowFirst (turned (eqb order 0) (take k (drop at s)))

@@ -1,4 +1,4 @@
--- Document 01, 'Polygon bytes', the writer: a ring as a polygon, all little-endian. Assumes nothing.
+-- Document 01, 'Polygon bytes', the writer: a ring as a polygon, in a byte order. Assumes nothing.
 use Prim.Native.Nat.{ℕ, _+_, _*_}
 use mathlib.Core.Bool.{Bool, true, _&&_}
 use mathlib.Core.List.{List, [], _∷_, _++_}
@@ -6,27 +6,28 @@ use lib.Dec.{eqb, leb}
 use lib.ListN.{length, getD}
 use Rattle.exchange.specs.Answers.{Question, must, Answer, asked}
 use Rattle.exchange.specs.Coordinates.{encode}
-use Rattle.exchange.specs.Bytes.{lowBytes}
+use Rattle.exchange.specs.Bytes.{inOrder}
 
 -- a position: x, then y, each the eight bytes of its float
-abbrev pub position : ℕ → ℕ → List ℕ
-position x y = lowBytes 8 (encode x) ++ lowBytes 8 (encode y)
+abbrev pub position : ℕ → ℕ → ℕ → List ℕ
+position order x y = inOrder order 8 (encode x) ++ inOrder order 8 (encode y)
 
-unfoldable pub positions : List ℕ → List ℕ → List ℕ
-positions [] ys = []
-positions (x ∷ xs) [] = []
-positions (x ∷ xs) (y ∷ ys) = position x y ++ positions xs ys
+unfoldable pub positions : ℕ → List ℕ → List ℕ → List ℕ
+positions order [] ys = []
+positions order (x ∷ xs) [] = []
+positions order (x ∷ xs) (y ∷ ys) = position order x y ++ positions order xs ys
 
 -- the first repeated last
 abbrev pub around : List ℕ → List ℕ
 around l = l ++ (getD l 0 0 ∷ [])
 
--- byte order 1, type 3, one ring, and its count of positions, one more than the ring's length n
-abbrev pub head : ℕ → List ℕ
-head n = 1 ∷ (lowBytes 4 3 ++ (lowBytes 4 1 ++ lowBytes 4 (n + 1)))
+-- the byte order, type 3, one ring, and its count of positions, one more than the ring's length n
+abbrev pub head : ℕ → ℕ → List ℕ
+head order n = order ∷ (inOrder order 4 3 ++ (inOrder order 4 1 ++ inOrder order 4 (n + 1)))
 
-abbrev pub polygon : List ℕ → List ℕ → List ℕ
-polygon xs ys = head (length xs) ++ positions (around xs) (around ys)
+-- the ring as a polygon, in a byte order; the writer's is 1
+abbrev pub polygon : ℕ → List ℕ → List ℕ → List ℕ
+polygon order xs ys = head order (length xs) ++ positions order (around xs) (around ys)
 
 -- no coordinate is above 16,383
 unfoldable pub low : List ℕ → Bool

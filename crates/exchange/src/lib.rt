@@ -44,10 +44,10 @@ pub enum Judged {
     Refused(Refusal),
 }
 
-// Writes a ring as a polygon at the front of the output. Bytes past it stay as they were.
+// Writes a ring as a polygon, all little-endian, at the front of the output. Bytes past it stay as they were.
 pub fn write(xs: &[u16], ys: &[u16], out: &mut [u8]) -> Written
     ensures { λ r. ⌜ written r ≡ writing (now (xs .entry)) (now (ys .entry)) (length (now (out .entry))) ⌝ }
-    ensures { λ r. ⌜ now (out .exit) ≡ over (written r) (polygon (now (xs .entry)) (now (ys .entry))) (now (out .entry)) ⌝ }
+    ensures { λ r. ⌜ now (out .exit) ≡ over (written r) (polygon 1 (now (xs .entry)) (now (ys .entry))) (now (out .entry)) ⌝ }
 {
     if !writer::is_ring(xs, ys) {
         return writer::refused(30);

@@ -64,7 +64,7 @@ fn put_ring(xs: &[u16], ys: &[u16], out: &mut [u8])
     requires { ⌜ 1 ≤ length (now xs) ⌝ }
     requires { ⌜ length (now xs) ≡ length (now ys) ⌝ }
     requires { ⌜ 16 * (length (now xs) + 1) ≤ length (now out) ⌝ }
-    ensures { λ _. ⌜ now (out .exit) ≡ sets (now (out .entry)) 0 (positions (around (now (xs .entry))) (around (now (ys .entry)))) ⌝ }
+    ensures { λ _. ⌜ now (out .exit) ≡ sets (now (out .entry)) 0 (positions 1 (around (now (xs .entry))) (around (now (ys .entry)))) ⌝ }
 {
     let mut i = 0;
     let mut at = 0;
@@ -79,7 +79,7 @@ fn put_ring(xs: &[u16], ys: &[u16], out: &mut [u8])
 fn put_head(out: &mut [u8], n: usize)
     requires { ⌜ 13 ≤ length (now out) ⌝ }
     requires { ⌜ n ≤ 1024 ⌝ }
-    ensures { λ _. ⌜ now (out .exit) ≡ sets (now (out .entry)) 0 (head n) ⌝ }
+    ensures { λ _. ⌜ now (out .exit) ≡ sets (now (out .entry)) 0 (head 1 n) ⌝ }
 {
     out[0] = 1;
     numbers::put4(out, 1, 3);
@@ -92,7 +92,7 @@ pub fn put_polygon(xs: &[u16], ys: &[u16], out: &mut [u8])
     requires { ⌜ (1 ≤ length (now xs)) × (length (now xs) ≤ 1024) ⌝ }
     requires { ⌜ length (now xs) ≡ length (now ys) ⌝ }
     requires { ⌜ size (length (now xs)) ≤ length (now out) ⌝ }
-    ensures { λ _. ⌜ now (out .exit) ≡ sets (now (out .entry)) 0 (polygon (now (xs .entry)) (now (ys .entry))) ⌝ }
+    ensures { λ _. ⌜ now (out .exit) ≡ sets (now (out .entry)) 0 (polygon 1 (now (xs .entry)) (now (ys .entry))) ⌝ }
 {
     put_head(out, xs.len());
     put_ring(xs, ys, &mut out[13..]);

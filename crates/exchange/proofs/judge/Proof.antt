@@ -5,28 +5,19 @@ use Rattle.exchange.specs.Answers.{gives}
 use Rattle.exchange.proofs.Asking.{asking}
 use Rattle.exchange.proofs.judge.Statement.{statement}
 use Rattle.exchange.proofs.judge.Tie as tie
-use Rattle.exchange.proofs.judge.Reads as reads
-use Rattle.exchange.proofs.judge.Lts as lts
-use Rattle.exchange.proofs.coordinates.coordinate_at.Reads as coordinate-at-reads
-use Rattle.exchange.proofs.reader.is_whole.Reads as is-whole-reads
 
--- src/lib.rt:90:9
 returns : tie.Need-returns
 returns c = search asking depth 6
 
--- src/lib.rt:95:9
 is-whole-requires : tie.Need-is-whole-requires
 is-whole-requires c κs = search needs
 
--- src/lib.rt:96:9
 returns-2 : tie.Need-returns-2
 returns-2 c = search asking depth 6
 
--- src/lib.rt:98:16
 coordinate-at-requires : tie.Need-coordinate-at-requires
 coordinate-at-requires c κs = search asking
 
--- src/lib.rt:86:1
 returns-3 : tie.Need-returns-3
 returns-3 c = search (ap gives (c .coordinate-at .ensures), asking) depth 6
 

@@ -8,7 +8,8 @@ use lib.ListN.{length}
 use Rattle.laws.proofs.Put.{put-front}
 use Rattle.exchange.specs.Writing.{polygon}
 use Rattle.exchange.proofs.Asking.{asking, stays}
-use Rattle.exchange.proofs.Positions.{ring-is, polygon-length}
+use Rattle.exchange.proofs.Lengths.{polygon-length}
+use Rattle.exchange.proofs.Positions.{ring-is}
 use Rattle.exchange.proofs.write.Statement.{statement}
 use Rattle.exchange.proofs.write.Tie as tie
 
@@ -21,7 +22,7 @@ refused-requires c κs = search needs
 returns : tie.Need-returns
 returns c =
     let a = c .before .before .before .before .before .before .args in
-    (search asking depth 5, stays _ _ (polygon (now (a .xs)) (now (a .ys))) (now (a .out)) (c .refused .ensures))
+    (search asking depth 5, stays _ _ (polygon 1 (now (a .xs)) (now (a .ys))) (now (a .out)) (c .refused .ensures))
 
 are-low-requires : tie.Need-are-low-requires
 are-low-requires c κs = search needs
@@ -32,7 +33,7 @@ refused-requires-2 c κs = search needs
 returns-2 : tie.Need-returns-2
 returns-2 c =
     let a = c .before .before .before .before .before .before .before .before .args in
-    (search asking depth 5, stays _ _ (polygon (now (a .xs)) (now (a .ys))) (now (a .out)) (c .refused2 .ensures))
+    (search asking depth 5, stays _ _ (polygon 1 (now (a .xs)) (now (a .ys))) (now (a .out)) (c .refused2 .ensures))
 
 mul-size : tie.Need-mul-size
 mul-size c =
@@ -52,7 +53,7 @@ refused-requires-3 c κs = search needs
 returns-3 : tie.Need-returns-3
 returns-3 c =
     let a = c .before .before .before .before .before .before .before .before .before .args in
-    (search asking depth 5, stays _ _ (polygon (now (a .xs)) (now (a .ys))) (now (a .out)) (c .refused3 .ensures))
+    (search asking depth 5, stays _ _ (polygon 1 (now (a .xs)) (now (a .ys))) (now (a .out)) (c .refused3 .ensures))
 
 put-polygon-requires : tie.Need-put-polygon-requires
 put-polygon-requires c κs =
@@ -67,7 +68,7 @@ returns-4 : tie.Need-returns-4
 returns-4 c =
     let a = c .before .before .before .before .before .before .before .before .before .before .before .before .args in
     let h = ring-is (length (now (a .xs))) (length (now (a .ys))) (c .before .before .before .before .before .before .before .before .is-ring .ensures) (c .before .before .before .before .before .before .before .if1 .left) in
-    (search asking depth 5, c .before .before .put-polygon .ensures ∙ put-front (polygon (now (a .xs)) (now (a .ys))) (now (a .out)) (omega (arith, polygon-length (now (a .xs)) (now (a .ys)) (h .0))))
+    (search asking depth 5, c .before .before .put-polygon .ensures ∙ put-front (polygon 1 (now (a .xs)) (now (a .ys))) (now (a .out)) (omega (arith, polygon-length 1 (now (a .xs)) (now (a .ys)) (h .0))))
 
 pub write-spec : {M : Type 1} → statement M
 write-spec =

@@ -1,3 +1,4 @@
+-- `exchange::coordinates::float_at` meets its contract.
 use borrow.Author.Needs.{needs}
 use Rattle.exchange.proofs.coordinates.float_at.Statement.{statement}
 use Rattle.exchange.proofs.coordinates.float_at.Tie as tie

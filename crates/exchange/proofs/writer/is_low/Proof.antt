@@ -1,3 +1,4 @@
+-- `exchange::writer::is_low` meets its contract. The loop's invariant: what is left is low just where the whole is.
 use Prim.Native.Nat.{ℕ, _+_, _-_, _≤_}
 use mathlib.Core.Path.{_≡_, refl, sym, ap, _∙_}
 use native.Mathlib.Omega.{arith}
@@ -7,8 +8,6 @@ use Rattle.exchange.specs.Writing.{low}
 use Rattle.exchange.proofs.Positions.{low-high, low-on, low-end}
 use Rattle.exchange.proofs.writer.is_low.Statement.{statement}
 use Rattle.exchange.proofs.writer.is_low.Tie as tie
-use Rattle.exchange.proofs.writer.is_low.Reads as reads
-use Rattle.exchange.proofs.writer.is_low.Lts as lts
 
 abbrev Inv-loop : tie.InvT-loop
 Inv-loop x i₀ i = (i ≤ length x) × (low (drop i x) ≡ low x)

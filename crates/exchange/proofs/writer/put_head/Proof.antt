@@ -1,3 +1,4 @@
+-- `exchange::writer::put_head` meets its contract.
 use borrow.Author.Needs.{needs}
 use Prim.Native.Nat.{ℕ, _+_}
 use mathlib.Core.Path.{_≡_, ap, _∙_}
@@ -10,9 +11,6 @@ use Rattle.exchange.specs.Bytes.{lowBytes}
 use Rattle.exchange.proofs.Octets.{put-head-next}
 use Rattle.exchange.proofs.writer.put_head.Statement.{statement}
 use Rattle.exchange.proofs.writer.put_head.Tie as tie
-use Rattle.exchange.proofs.writer.put_head.Reads as reads
-use Rattle.exchange.proofs.writer.put_head.Lts as lts
-use Rattle.exchange.proofs.numbers.put4.Reads as put4-reads
 
 slice-write-out : tie.Need-slice-write-out
 slice-write-out c = search needs

@@ -4,36 +4,25 @@ use denote.Ref.{now}
 use Rattle.exchange.proofs.Positions.{put-polygon}
 use Rattle.exchange.proofs.writer.put_polygon.Statement.{statement}
 use Rattle.exchange.proofs.writer.put_polygon.Tie as tie
-use Rattle.exchange.proofs.writer.put_polygon.Reads as reads
-use Rattle.exchange.proofs.writer.put_polygon.Lts as lts
-use Rattle.exchange.proofs.writer.put_head.Reads as put-head-reads
-use Rattle.exchange.proofs.writer.put_ring.Reads as put-ring-reads
 
--- src/writer.rt:98:5
 put-head-requires : tie.Need-put-head-requires
 put-head-requires c κs = search needs
 
--- src/writer.rt:99:22
 sub-put-ring : tie.Need-sub-put-ring
 sub-put-ring c = search needs
 
--- src/writer.rt:99:22
 part-put-ring-start : tie.Need-part-put-ring-start
 part-put-ring-start c = search needs
 
--- src/writer.rt:99:22
 part-put-ring-end : tie.Need-part-put-ring-end
 part-put-ring-end c = search needs
 
--- src/writer.rt:99:5
 put-ring-requires : tie.Need-put-ring-requires
 put-ring-requires c κs = search needs
 
--- src/writer.rt:92:1
 same-length : tie.Need-same-length
 same-length c = search needs
 
--- src/writer.rt:92:1
 returns : tie.Need-returns
 returns c =
     let s = c .before .before .before .before .before .before .before .before .before .before .before in

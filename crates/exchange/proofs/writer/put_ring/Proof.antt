@@ -1,3 +1,4 @@
+-- `exchange::writer::put_ring` meets its contract. The loop's invariant: what is left to put makes the output what the whole makes of it.
 use Prim.Native.Nat.{ℕ, _+_, _*_, _-_, _≤_}
 use mathlib.Core.Path.{_≡_, refl, sym, ap, _∙_}
 use native.Mathlib.Omega.{arith}
@@ -10,14 +11,10 @@ use Rattle.exchange.proofs.Floats.{number-no-nan}
 use Rattle.exchange.proofs.Positions.{placed, ring-step, ring-end}
 use Rattle.exchange.proofs.writer.put_ring.Statement.{statement}
 use Rattle.exchange.proofs.writer.put_ring.Tie as tie
-use Rattle.exchange.proofs.writer.put_ring.Reads as reads
-use Rattle.exchange.proofs.writer.put_ring.Lts as lts
-use Rattle.exchange.proofs.coordinates.position_of.Reads as position-of-reads
-use Rattle.exchange.proofs.writer.put_position.Reads as put-position-reads
 
 abbrev Inv-loop : tie.InvT-loop
 Inv-loop x y out₀ i₀ at₀ out i at =
-    (i ≤ length x) × (at ≡ 16 * i) × (length out ≡ length out₀) × (sets out at (positions (drop i x) (drop i y)) ≡ sets out₀ 0 (positions x y))
+    (i ≤ length x) × (at ≡ 16 * i) × (length out ≡ length out₀) × (sets out at (positions 1 (drop i x) (drop i y)) ≡ sets out₀ 0 (positions 1 x y))
 
 abbrev μ-loop : tie.MeasureT-loop
 μ-loop x y out₀ i₀ at₀ out i at = length x - i
