@@ -1,6 +1,6 @@
 -- Questions asked in order: what an answer says of them, and how code that asks them one by one comes to it. Assumes nothing.
 use Prim.Native.Nat.{ℕ, _-_, _<_, _≤_}
-use mathlib.Core.Path.{_≡_, refl, sym, ap, _∙_}
+use mathlib.Core.Path.{_≡_, refl, sym, ap, _∙_, subst}
 use mathlib.Core.Bool.{Bool, true, false, not, _&&_, cond}
 use mathlib.Core.List.{List, [], _∷_, _++_}
 use lib.Dec.{leb, eqb}
@@ -106,3 +106,29 @@ module _ {A B : Type 0} {x : Answer B} (ps qs : List Question) (a : A) (b : B) w
 -- what a refusal leaves in lent memory
 pub stays : {A : Type 0} {x : Answer A} (k p : ℕ) (new old : List ℕ) → x ≡ refused k p → old ≡ over x new old
 stays {A} k p new old e = sym (ap (λ (y : Answer A). over y new old) e)
+
+-- ---- what an answer says
+
+-- a refusal is the first question's, or that is passed and it is one of the others'
+pub ask-cases : {A : Type 0} {n q : ℕ} (P : ℕ → ℕ → Type 0) (t : Bool) (k p : ℕ) (qs : List Question) (a : A) → refused n q ≡ asked (must t k p ∷ qs) a
+    → (t ≡ false → P k p) → (t ≡ true → refused n q ≡ asked qs a → P n q) → P n q
+unfolding asked
+ask-cases P true k p qs a e f g = g refl e
+ask-cases {A} {n} {q} P false k p qs a e f g =
+    let i : k ≡ n = cc in
+    let j : p ≡ q = cc in
+    subst (λ (m : ℕ). P m q) i (subst (P k) j (f refl))
+
+-- ... of two parts
+pub part-cases : {A B : Type 0} {n q : ℕ} {P : Type 0} (ps qs : List Question) (a : A) (b : B) → refused n q ≡ asked (ps ++ qs) b
+    → (refused n q ≡ asked ps a → P) → (gives a ≡ asked ps a → refused n q ≡ asked qs b → P) → P
+unfolding asked
+part-cases [] qs a b e f g = g refl e
+part-cases {A} {B} {n} {q} {P} (c ∷ ps) qs a b e f g = go (c .holds) e (λ h. part-cases ps qs a b h) f g
+  where
+    go : (t : Bool) → refused n q ≡ cond t (asked (ps ++ qs) b) (refused (c .number) (c .place))
+        → (refused n q ≡ asked (ps ++ qs) b → (refused n q ≡ asked ps a → P) → (gives a ≡ asked ps a → refused n q ≡ asked qs b → P) → P)
+        → (refused n q ≡ cond t (asked ps a) (refused (c .number) (c .place)) → P)
+        → (gives a ≡ cond t (asked ps a) (refused (c .number) (c .place)) → refused n q ≡ asked qs b → P) → P
+    go true h r f g = r h f g
+    go false h r f g = let i : _≡_ {A = Answer A} (refused n q) (refused (c .number) (c .place)) = cc in f i

@@ -50,7 +50,7 @@ module _ (x : Float) (f : T (fits binary64 x)) (t : T (inUnsigned binary64 14 x)
   pub is-number : ofInt binary64 (pos (toUnsigned 14 x)) ≡ x
   is-number = float-back-unsigned binary64 14 x f t .1
 
-cut-lt : (w : ℕ) (x : Float) → T (inUnsigned binary64 w x) → toUnsigned w x < 2 ^ w
+pub cut-lt : (w : ℕ) (x : Float) → T (inUnsigned binary64 w x) → toUnsigned w x < 2 ^ w
 cut-lt w x t = lib.Ieee.Casts.toUnsigned-lt w x
 
 -- what x is at another width, once it is on the grid
@@ -125,38 +125,6 @@ patterns x f l =
     eq→eqb (ap (λ (k : ℕ). toBits binary64 (ofInt binary64 (pos k))) (at-width 64 x f t (lit≤ tt) .1) ∙ ap (toBits binary64) (is-number x f t)) in
     same-test (eqb (toBits binary64 (ofInt binary64 (pos n))) (toBits binary64 x)) (inUnsigned binary64 14 x) to from
 
--- ---- judging
-
--- the judgement of a float on the grid
-pub judged-grid : (x : Float) → T (inUnsigned binary64 14 x) → coordinate x ≡ Grid (toUnsigned 14 x)
-judged-grid nan t = absurd (unfold inUnsigned in t)
-judged-grid (inf s) t = absurd (unfold inUnsigned in t)
-judged-grid (fin s m e) t = go (inUnsigned binary64 14 (fin s m e)) t
-  where
-    go : (b : Bool) → T b → cond b (Grid (toUnsigned 14 (fin s m e))) (OffGrid (fin s m e)) ≡ Grid (toUnsigned 14 (fin s m e))
-    go true u = refl
-    go false u = absurd u
-
--- ... of a finite one off it, and of the others
-pub judged-off : (x : Float) → inUnsigned binary64 14 x ≡ false → lt (inf true) x ≡ true → lt x (inf false) ≡ true → OffGrid x ≡ coordinate x
-unfolding lt
-judged-off nan g a b = absurd (holds b)
-judged-off (inf true) g a b = absurd (holds a)
-judged-off (inf false) g a b = absurd (holds b)
-judged-off (fin s m e) g a b = sym (ap (λ (t : Bool). cond t (Grid (toUnsigned 14 (fin s m e))) (OffGrid (fin s m e))) g)
-
-pub judged-high : (x : Float) → lt x (inf false) ≡ false → NotFinite ≡ coordinate x
-unfolding lt
-judged-high nan b = refl
-judged-high (inf s) b = refl
-judged-high (fin s m e) b = absurd (fails b tt)
-
-pub judged-low : (x : Float) → lt (inf true) x ≡ false → NotFinite ≡ coordinate x
-unfolding lt
-judged-low nan b = refl
-judged-low (inf s) b = refl
-judged-low (fin s m e) b = absurd (fails b tt)
-
 -- ---- patterns and grid numbers
 
 odd-no-nan : (d : ℕ) (s : Bool) (q k l : ℕ) → T (not (isNan (odd d s q k l)))
@@ -192,28 +160,3 @@ only-nan (fin s m e) t = absurd t
 -- a NaN's pattern
 pub nan-of : (b : ℕ) → nanBits binary64 b ≡ true → ofBits binary64 b ≡ nan
 nan-of b e = only-nan (ofBits binary64 b) (holds (sym (nanBits-is binary64 b) ∙ e))
-
--- ---- the two laws of judging and writing
-
--- a grid number's pattern is judged as that number
-pub judge-encode : (g : ℕ) → g < 2 ^ 14 → coordinate (ofBits binary64 (encode g)) ≡ Grid g
-judge-encode g h =
-    let b = comes-back 14 g h h in
-    ap coordinate (ofBits-toBits binary64 (ofInt binary64 (pos g)) (ofInt-fits binary64 (pos g))) ∙ judged-grid (ofInt binary64 (pos g)) (b .0) ∙ ap Grid (b .1)
-
-grid-only : (x : Float) (g : ℕ) → coordinate x ≡ Grid g → T (inUnsigned binary64 14 x) × (toUnsigned 14 x ≡ g)
-grid-only nan g e = let z : _≡_ {A = ℕ} 0 1 = cc in absurd (omega arith)
-grid-only (inf s) g e = let z : _≡_ {A = ℕ} 0 1 = cc in absurd (omega arith)
-grid-only (fin s m e) g q = go (inUnsigned binary64 14 (fin s m e)) q
-  where
-    go : (b : Bool) → cond b (Grid (toUnsigned 14 (fin s m e))) (OffGrid (fin s m e)) ≡ Grid g → T b × (toUnsigned 14 (fin s m e) ≡ g)
-    go true p = (tt, cc)
-    go false p = let z : _≡_ {A = ℕ} 0 1 = cc in absurd (omega arith)
-
--- a pattern that is judged as a grid number is that number's pattern
-pub encode-judge : (b g : ℕ) → b < 2 ^ 64 → coordinate (ofBits binary64 b) ≡ Grid g → (b ≡ encode g) × (g < 2 ^ 14)
-encode-judge b g h e =
-    let x : Float = ofBits binary64 b in
-    let t = grid-only x g e in
-    let n : ofInt binary64 (pos g) ≡ x = ap (λ (k : ℕ). ofInt binary64 (pos k)) (sym (t .1)) ∙ is-number x (ofBits-fits binary64 b) (t .0) in
-    (sym (toBits-ofBits binary64 b h (finite-no-nan 14 x (t .0))) ∙ ap (toBits binary64) (sym n), subst (λ (k : ℕ). k < 2 ^ 14) (t .1) (cut-lt 14 x (t .0)))

@@ -1,6 +1,7 @@
 -- Laws that the proofs of exchange share, and the theorems about its definitions.
 pub mod Octets
 pub mod Floats
+pub mod Judgements
 pub mod Asking
 pub mod Scanned
 pub mod Lengths
@@ -12,3 +13,9 @@ pub mod Lows
 pub mod ReadAfterWrite
 pub mod WriteAfterRead
 pub mod ByteOrders
+pub mod Runs
+pub mod Refused
+pub mod ReadExactly
+pub mod WriteExactly
+pub mod Unique
+pub mod RoundTrip

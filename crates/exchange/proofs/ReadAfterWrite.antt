@@ -19,7 +19,7 @@ use Rattle.exchange.specs.Coordinates.{coordinate, encode, coordinateAt,
 use Rattle.exchange.specs.Bytes.{inOrder, numberAt}
 use Rattle.exchange.specs.Writing.{position, positions, around, head, polygon, low, size}
 use Rattle.exchange.specs.Reading.{grids, order-at, length-at, xs-at, ys-at, polygon-asks, read-answer}
-use Rattle.exchange.proofs.Floats.{judge-encode}
+use Rattle.exchange.proofs.Judgements.{judge-encode}
 use Rattle.exchange.proofs.Scanned.{scanned, fine-there, no-more}
 use Rattle.exchange.proofs.Lengths.{around-length, around-same, head-length, polygon-length}
 use Rattle.exchange.proofs.Words.{word-at, word-past, word-room}

@@ -16,7 +16,7 @@ use Rattle.exchange.specs.Coordinates.{encode, coordinateAt, onGrid, gri
 use Rattle.exchange.specs.Bytes.{inOrder, numberAt}
 use Rattle.exchange.specs.Writing.{position, positions, around, head, polygon, low, size, writing}
 use Rattle.exchange.specs.Reading.{grids, count, order-at, length-at, xs-at, ys-at, polygon-asks, end, read-answer}
-use Rattle.exchange.proofs.Floats.{encode-judge}
+use Rattle.exchange.proofs.Judgements.{encode-judge}
 use Rattle.exchange.proofs.Scanned.{scanned, grids-length}
 use Rattle.exchange.proofs.Lengths.{polygon-length}
 use Rattle.exchange.proofs.Words.{Octets, word-lt, word-of}

@@ -4,3 +4,4 @@ pub mod Bytes
 pub mod Coordinates
 pub mod Writing
 pub mod Reading
+pub mod Refusals

@@ -4,7 +4,8 @@ use borrow.Author.Needs.{needs}
 use lib.Dec.{T, lit≤}
 use lib.Ieee.{ofBits, nanBits, inUnsigned, binary64}
 use Rattle.exchange.specs.declared.Coordinate.the-variants.{Grid, OffGrid, NotFinite}
-use Rattle.exchange.proofs.Floats.{holds, at-width, judged-grid, judged-off, judged-high, judged-low}
+use Rattle.exchange.proofs.Floats.{holds, at-width}
+use Rattle.exchange.proofs.Judgements.{judged-grid, judged-off, judged-high, judged-low}
 use Rattle.exchange.proofs.coordinates.coordinate_of.Statement.{statement}
 use Rattle.exchange.proofs.coordinates.coordinate_of.Tie as tie
 
