@@ -10,7 +10,9 @@ use lib.ListN.{length, drop}
 use lib.Seq.{sets}
 use Rattle.laws.proofs.Put.{put-front}
 use Rattle.laws.proofs.Test.{and-iff}
-use Rattle.exchange.specs.Answers.{Question, must, Answer, gives, refused, asked, over}
+use Rattle.exchange.specs.declared.Reading.{Reading}
+use Rattle.exchange.specs.declared.Reading.the-variants.{Ring}
+use Rattle.exchange.specs.Answers.{Question, must, Answer, gives, refused, asked, over, reading}
 use Rattle.exchange.specs.Bytes.{numberAt}
 use Rattle.exchange.specs.Coordinates.{gridAt}
 use Rattle.exchange.specs.Reading.{coordinates, grids, count, order-at, length-at, head-asks, closes, polygon-asks, end, read-answer}
@@ -96,6 +98,14 @@ ringed-answer s at room n r =
     closed s at room n (head-answer s at room n (r .head)) (r .fine) refl same
 
 -- ---- a block that is one polygon
+
+-- what a call found there, for lists whose lesser length is m
+module _ (s : List ℕ) (found : Reading) (r m : ℕ) (answer : reading found ≡ asked (polygon-asks s 0 r) (length-at s 0)) (is : r ≡ m) where
+  pub found-answer : reading found ≡ asked (polygon-asks s 0 m) (length-at s 0)
+  found-answer = answer ∙ ap (λ (k : ℕ). asked (polygon-asks s 0 k) (length-at s 0)) is
+
+  pub found-ring : (n : ℕ) → found ≡ Ring n → gives n ≡ asked (polygon-asks s 0 m) (length-at s 0)
+  found-ring n e = sym (ap reading e) ∙ found-answer
 
 module _ (s : List ℕ) (room n : ℕ) (answer : gives n ≡ asked (polygon-asks s 0 room) (length-at s 0)) where
   r : Ringed s 0 room n

@@ -5,10 +5,10 @@ use native.Mathlib.Omega.{arith}
 use borrow.Author.Needs.{needs}
 use denote.Ref.{now}
 use lib.ListN.{length}
-use Rattle.exchange.specs.Answers.{reading, asked}
+use Rattle.exchange.specs.Answers.{reading}
 use Rattle.exchange.specs.Reading.{length-at, polygon-asks, xs-at, ys-at}
 use Rattle.exchange.proofs.Asking.{stops-first, stays}
-use Rattle.exchange.proofs.Polygons.{polygon-good, bytes-left, all-read, filled}
+use Rattle.exchange.proofs.Polygons.{found-answer, found-ring, polygon-good, bytes-left, all-read, filled}
 use Rattle.exchange.proofs.read.Statement.{statement}
 use Rattle.exchange.proofs.read.Tie as tie
 
@@ -30,7 +30,7 @@ returns c =
     let s = now (a .block) in
     let told = ap reading (c .enum-told .given .1) in
     let m = min (length (now (a .xs))) (length (now (a .ys))) in
-    let answer = c .before .before .polygon-at .ensures ∙ ap (λ (k : ℕ). asked (polygon-asks s 0 k) (length-at s 0)) (c .before .before .before .lesser .ensures) in (
+    let answer = found-answer s (c .before .before .polygon-at .result) (c .before .before .before .lesser .result) m (c .before .before .polygon-at .ensures) (c .before .before .before .lesser .ensures) in (
       stops-first (polygon-asks s 0 m) _ (length-at s 0) (length-at s 0) _ _ (sym told ∙ answer) told,
       (stays _ _ (xs-at s 0) (now (a .xs)) told, stays _ _ (ys-at s 0) (now (a .ys)) told),
     )
@@ -41,7 +41,7 @@ mul-end c =
     let s = now (a .block) in
     let n = c .before .found .given .0 .0 in
     let m = min (length (now (a .xs))) (length (now (a .ys))) in
-    let answer = sym (ap reading (c .before .found .given .1)) ∙ c .before .before .before .polygon-at .ensures ∙ ap (λ (k : ℕ). asked (polygon-asks s 0 k) (length-at s 0)) (c .before .before .before .before .lesser .ensures) in
+    let answer = found-ring s (c .before .before .before .polygon-at .result) (c .before .before .before .before .lesser .result) m (c .before .before .before .polygon-at .ensures) (c .before .before .before .before .lesser .ensures) n (c .before .found .given .1) in
     let r = polygon-good s 0 m n answer in
     omega (arith, r .head .most)
 
@@ -51,7 +51,7 @@ add-end c =
     let s = now (a .block) in
     let n = c .before .found .given .0 .0 in
     let m = min (length (now (a .xs))) (length (now (a .ys))) in
-    let answer = sym (ap reading (c .before .found .given .1)) ∙ c .before .before .before .polygon-at .ensures ∙ ap (λ (k : ℕ). asked (polygon-asks s 0 k) (length-at s 0)) (c .before .before .before .before .lesser .ensures) in
+    let answer = found-ring s (c .before .before .before .polygon-at .result) (c .before .before .before .before .lesser .result) m (c .before .before .before .polygon-at .ensures) (c .before .before .before .before .lesser .ensures) n (c .before .found .given .1) in
     let r = polygon-good s 0 m n answer in
     omega (arith, r .head .most)
 
@@ -64,7 +64,7 @@ returns-2 c =
     let s = now (a .block) in
     let n = c .before .before .before .found .given .0 .0 in
     let m = min (length (now (a .xs))) (length (now (a .ys))) in
-    let answer = sym (ap reading (c .before .before .before .found .given .1)) ∙ c .before .before .before .before .before .polygon-at .ensures ∙ ap (λ (k : ℕ). asked (polygon-asks s 0 k) (length-at s 0)) (c .before .before .before .before .before .before .lesser .ensures) in
+    let answer = found-ring s (c .before .before .before .before .before .polygon-at .result) (c .before .before .before .before .before .before .lesser .result) m (c .before .before .before .before .before .polygon-at .ensures) (c .before .before .before .before .before .before .lesser .ensures) n (c .before .before .before .found .given .1) in
     let r = polygon-good s 0 m n answer in (
       bytes-left s m n answer (c .before .if1 .taken) (c .refused .ensures),
       (stays _ _ (xs-at s 0) (now (a .xs)) (c .refused .ensures), stays _ _ (ys-at s 0) (now (a .ys)) (c .refused .ensures)),
@@ -76,7 +76,7 @@ shared-slice-read-fill c =
     let s = now (a .block) in
     let n = c .before .before .before .found .given .0 .0 in
     let m = min (length (now (a .xs))) (length (now (a .ys))) in
-    let answer = sym (ap reading (c .before .before .before .found .given .1)) ∙ c .before .before .before .before .before .polygon-at .ensures ∙ ap (λ (k : ℕ). asked (polygon-asks s 0 k) (length-at s 0)) (c .before .before .before .before .before .before .lesser .ensures) in
+    let answer = found-ring s (c .before .before .before .before .before .polygon-at .result) (c .before .before .before .before .before .before .lesser .result) m (c .before .before .before .before .before .polygon-at .ensures) (c .before .before .before .before .before .before .lesser .ensures) n (c .before .before .before .found .given .1) in
     let r = polygon-good s 0 m n answer in
     omega (arith, r .whole)
 
@@ -86,7 +86,7 @@ fill-requires c κs =
     let s = now (a .block) in
     let n = c .before .before .before .before .before .found .given .0 .0 in
     let m = min (length (now (a .xs))) (length (now (a .ys))) in
-    let answer = sym (ap reading (c .before .before .before .before .before .found .given .1)) ∙ c .before .before .before .before .before .before .before .polygon-at .ensures ∙ ap (λ (k : ℕ). asked (polygon-asks s 0 k) (length-at s 0)) (c .before .before .before .before .before .before .before .before .lesser .ensures) in
+    let answer = found-ring s (c .before .before .before .before .before .before .before .polygon-at .result) (c .before .before .before .before .before .before .before .before .lesser .result) m (c .before .before .before .before .before .before .before .polygon-at .ensures) (c .before .before .before .before .before .before .before .before .lesser .ensures) n (c .before .before .before .before .before .found .given .1) in
     let r = polygon-good s 0 m n answer in
     (omega (arith, r .whole), (omega (arith, r .head .fits), omega (arith, r .head .fits)))
 
@@ -102,7 +102,7 @@ returns-3 c =
     let s = now (a .block) in
     let n = c .before .before .before .before .before .before .before .before .before .before .found .given .0 .0 in
     let m = min (length (now (a .xs))) (length (now (a .ys))) in
-    let answer = sym (ap reading (c .before .before .before .before .before .before .before .before .before .before .found .given .1)) ∙ c .before .before .before .before .before .before .before .before .before .before .before .before .polygon-at .ensures ∙ ap (λ (k : ℕ). asked (polygon-asks s 0 k) (length-at s 0)) (c .before .before .before .before .before .before .before .before .before .before .before .before .before .lesser .ensures) in
+    let answer = found-ring s (c .before .before .before .before .before .before .before .before .before .before .before .before .polygon-at .result) (c .before .before .before .before .before .before .before .before .before .before .before .before .before .lesser .result) m (c .before .before .before .before .before .before .before .before .before .before .before .before .polygon-at .ensures) (c .before .before .before .before .before .before .before .before .before .before .before .before .before .lesser .ensures) n (c .before .before .before .before .before .before .before .before .before .before .found .given .1) in
     let r = polygon-good s 0 m n answer in (
       all-read s m n answer (c .before .before .before .before .before .before .before .before .if1 .left),
       (
