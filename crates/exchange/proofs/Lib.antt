@@ -14,6 +14,8 @@ pub mod ReadAfterWrite
 pub mod WriteAfterRead
 pub mod ByteOrders
 pub mod Runs
+pub mod Shapes
+pub mod PointFiles
 pub mod Refused
 pub mod ReadExactly
 pub mod WriteExactly

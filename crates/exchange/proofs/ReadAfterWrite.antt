@@ -18,7 +18,7 @@ use Rattle.exchange.specs.Answers.{Answer, gives, asked, over}
 use Rattle.exchange.specs.Coordinates.{coordinate, encode, coordinateAt, refusalOf, gridOf, gridAt}
 use Rattle.exchange.specs.Bytes.{inOrder, numberAt}
 use Rattle.exchange.specs.Writing.{position, positions, around, head, polygon, low, size}
-use Rattle.exchange.specs.Reading.{grids, order-at, length-at, xs-at, ys-at, polygon-asks, read-answer}
+use Rattle.exchange.specs.Reading.{row, grids, order-at, length-at, xs-at, ys-at, polygon-asks, read-answer}
 use Rattle.exchange.proofs.Judgements.{judge-encode}
 use Rattle.exchange.proofs.Scanned.{scanned, fine-there, no-more}
 use Rattle.exchange.proofs.Lengths.{around-length, around-same, head-length, polygon-length}
@@ -37,7 +37,7 @@ module _ (order : ℕ) where
 
   positions-back : (xs ys more s : List ℕ) (at : ℕ) → length xs ≡ length ys → low xs ≡ true → low ys ≡ true → drop at s ≡ positions order xs ys ++ more
       → (gives tt ≡ scanned (2 * length xs) order s at) × (grids (length xs) order s at ≡ xs) × (grids (length xs) order s (at + 8) ≡ ys)
-  unfolding positions grids
+  unfolding positions row
   positions-back [] [] more s at e a b d = (no-more order s at tt refl, refl, refl)
   positions-back [] (y ∷ ys) more s at e a b d = absurd (omega arith)
   positions-back (x ∷ xs) [] more s at e a b d = absurd (omega arith)
