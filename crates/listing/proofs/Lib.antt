@@ -5,3 +5,7 @@ pub mod Scanning
 pub mod Words
 pub mod Laying
 pub mod Parsing
+pub mod Grammar
+pub mod ReadBack
+pub mod Examples
+pub mod Unique

@@ -32,7 +32,7 @@ unfolding value-from
 value-grows n [] = omega arith
 value-grows n (b ∷ q) = let h = value-grows (10 * n + (b - 48)) q in omega arith
 
-value-one : (n b : ℕ) → value-from n (b ∷ []) ≡ 10 * n + (b - 48)
+pub value-one : (n b : ℕ) → value-from n (b ∷ []) ≡ 10 * n + (b - 48)
 unfolding value-from
 value-one n b = refl
 
@@ -54,7 +54,7 @@ continues-iff d v b = (
 )
 
 -- what a number begins with is a number
-number-front : (p q : List ℕ) → number (p ++ q) ≡ true → number p ≡ true
+pub number-front : (p q : List ℕ) → number (p ++ q) ≡ true → number p ≡ true
 number-front p q e =
     let (d, l, v) = number-iff (p ++ q) .0 e in
     let g = value-grows (value p) q in
@@ -62,13 +62,13 @@ number-front p q e =
     number-iff p .1 (and-iff {a = digits p} .0 (sym (digits-append p q) ∙ d) .0, omega (arith, length-append p q), omega arith)
 
 module _ (p : List ℕ) (b : ℕ) where
-  snoc-length : length (p ++ (b ∷ [])) ≡ suc (length p)
+  pub snoc-length : length (p ++ (b ∷ [])) ≡ suc (length p)
   snoc-length = omega (arith, length-append p (b ∷ []))
 
-  snoc-value : value (p ++ (b ∷ [])) ≡ 10 * value p + (b - 48)
+  pub snoc-value : value (p ++ (b ∷ [])) ≡ 10 * value p + (b - 48)
   snoc-value = value-append 0 p (b ∷ []) ∙ value-one (value p) b
 
-  longer-number : number p ≡ true → continues (length p) (value p) b ≡ true → number (p ++ (b ∷ [])) ≡ true
+  pub longer-number : number p ≡ true → continues (length p) (value p) b ≡ true → number (p ++ (b ∷ [])) ≡ true
   longer-number e k =
       let (d, l, v) = number-iff p .0 e in
       let (g, s, m) = continues-iff (length p) (value p) b .0 k in
@@ -78,7 +78,7 @@ module _ (p : List ℕ) (b : ℕ) where
         omega (arith, snoc-value),
       )
 
-  goes-on : number (p ++ (b ∷ [])) ≡ true → continues (length p) (value p) b ≡ true
+  pub goes-on : number (p ++ (b ∷ [])) ≡ true → continues (length p) (value p) b ≡ true
   goes-on e =
       let (d, l, v) = number-iff (p ++ (b ∷ [])) .0 e in
       continues-iff (length p) (value p) b .1 (

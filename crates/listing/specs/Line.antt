@@ -19,9 +19,14 @@ unfoldable pub onward : List ℕ → List ℕ
 onward [] = 10 ∷ []
 onward (n ∷ ns) = (32 ∷ decimal n) ++ onward ns
 
+-- a line of fields
+abbrev pub fields : List ℕ → List ℕ
+fields [] = onward []
+fields (n ∷ ns) = decimal n ++ onward ns
+
 -- least limit, triangles peeled, doubled area, ring
 abbrev pub line : ℕ → ℕ → ℕ → List ℕ → List ℕ
-line least peels area ring = decimal least ++ onward (peels ∷ area ∷ ring)
+line least peels area ring = fields (least ∷ peels ∷ area ∷ ring)
 
 -- "refused", number, place
 abbrev pub refusal-line : ℕ → ℕ → List ℕ
@@ -30,3 +35,13 @@ refusal-line number place = (114 ∷ 101 ∷ 102 ∷ 117 ∷ 115 ∷ 101 ∷ 100
 -- bytes that hold every line of so many fields: a field has 20 digits at most and one byte beside it
 abbrev pub room : ℕ → ℕ
 room fields = 21 * fields
+
+-- numbers printed line by line
+unfoldable pub printout : List (List ℕ) → List ℕ
+printout [] = []
+printout (ns ∷ lines) = fields ns ++ printout lines
+
+-- the numbers of all lines
+unfoldable pub together : List (List ℕ) → List ℕ
+together [] = []
+together (ns ∷ lines) = ns ++ together lines
