@@ -1,0 +1,4 @@
+pub mod Front
+pub mod Decoding
+pub mod Rounds
+pub mod Chain
