@@ -50,5 +50,5 @@ pub edges : map numbers (
     ∷ none
     ∷ none
     ∷ [])
-unfolding parted digits value-from values map
+unfolding parted digits value-from values
 edges = refl
