@@ -152,8 +152,8 @@ impl Comparison<'_> {
         self.pass(good);
         let tally = library?;
         self.outline(&here.ring, tally);
-        let stayed = here.kept[sheet.triangles()..] == lent.kept[sheet.triangles()..]
-            && here.rim[sheet.points()..] == lent.rim[sheet.points()..]
+        let stayed = here.kept.get(sheet.triangles()..) == lent.kept.get(sheet.triangles()..)
+            && here.rim.get(sheet.points()..) == lent.rim.get(sheet.points()..)
             && here.ring.get(tally.ring..) == lent.ring.get(tally.ring..);
         self.among("places past the draw's stay", &input, &here, &lent, stayed);
         let outline = here.ring.get(..tally.ring).unwrap_or(&[]);

@@ -129,8 +129,8 @@ impl Comparison<'_> {
     }
 
     fn ends(&self, drawn: &Memory, listed: &Memory, sheet: &Sheet, tally: Tally) -> bool {
-        drawn.kept[..sheet.triangles()] == listed.kept[..sheet.triangles()]
-            && drawn.rim[..sheet.points()] == listed.rim[..sheet.points()]
+        drawn.kept.get(..sheet.triangles()) == listed.kept.get(..sheet.triangles())
+            && drawn.rim.get(..sheet.points()) == listed.rim.get(..sheet.points())
             && drawn.ring.get(..tally.ring) == listed.ring.get(..tally.ring)
     }
 
