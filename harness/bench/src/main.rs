@@ -2,8 +2,9 @@
 //!
 //!     bench [--seed S] [--quick] [--itself]
 //!
-//! Calls alternate between the two sides; a figure is the median over all repetitions on all offices of its row. Where
-//! GEOS can be asked (bench/geos.py), its ConcaveHull on the same points stands beside the draw.
+//! The second program comes twice: as the table says, each point against each circle, and with neighbours first. Calls
+//! alternate between the sides; a figure is the median over all repetitions on all offices of its row. Where GEOS can be
+//! asked (bench/geos.py), its ConcaveHull on the same points stands beside the draw.
 
 use library::{port_or_exit, Library};
 use offices::{accepted, Kind, Random, Sheet};
@@ -76,9 +77,9 @@ fn median(mut times: Vec<f64>) -> f64 {
     times[times.len() / 2]
 }
 
-/// Microseconds a call takes on either side, by the median.
-fn measure(sides: [&dyn Library; 2], call: usize, sheets: &[Sheet], plan: &Plan) -> [f64; 2] {
-    let mut times = [Vec::new(), Vec::new()];
+/// Microseconds a call takes on each side, by the median.
+fn measure(sides: [&dyn Library; 3], call: usize, sheets: &[Sheet], plan: &Plan) -> [f64; 3] {
+    let mut times = [Vec::new(), Vec::new(), Vec::new()];
     for sheet in sheets {
         let (limit, mut desk) = (limit(sheet), Desk::of(sheet));
         // Short calls are timed many at once, so that the clock does not count.
@@ -134,9 +135,14 @@ fn main() {
     let seed = words.iter().position(|w| w == "--seed").and_then(|i| words.get(i + 1)?.parse().ok()).unwrap_or(1);
     let plan = if has("--quick") { Plan { offices: 1, repetitions: 5 } } else { Plan { offices: 5, repetitions: 25 } };
     let library: Box<dyn Library> = if has("--itself") { Box::new(Second::right()) } else { port_or_exit() };
-    let second = Second::right();
+    let (second, quick) = (Second::right(), Second::neighbours_first());
 
-    println!("Microseconds a call, library / second program, and the ratio. Medians of {} calls on {} offices each, seed {seed}.", plan.repetitions * plan.offices, plan.offices);
+    println!(
+        "Microseconds that a call of the library takes, and in brackets how many times what the second program takes: as the table says, \
+         then with neighbours first. Medians of {} calls on {} offices, seed {seed}.",
+        plan.repetitions * plan.offices,
+        plan.offices
+    );
     for (call, name) in CALLS.iter().enumerate() {
         let with_geos = *name == "draw";
         println!("\n### {name}\n");
@@ -153,8 +159,8 @@ fn main() {
                 }
                 let mut random = Random::seeded(seed + size as u64);
                 let sheets: Vec<Sheet> = (0..plan.offices).map(|_| accepted(kind, size, &mut random)).collect();
-                let [here, there] = measure([&*library, &second], call, &sheets, &plan);
-                row.push(format!("{} / {} = {:.2}", figure(here), figure(there), here / there));
+                let [here, full, first] = measure([&*library, &second, &quick], call, &sheets, &plan);
+                row.push(format!("{} ({}, {})", figure(here), figure(here / full), figure(here / first)));
                 if with_geos {
                     hulls.push(geos(&sheets).map_or("-".to_string(), figure));
                 }

@@ -93,7 +93,11 @@ impl Comparison<'_> {
 
     /// Answers of a call that refuses: counted, and equal on both sides.
     fn answers<T: Debug + PartialEq>(
-        &mut self, call: Call, input: &dyn Debug, library: &Result<T, Refusal>, second: &Result<T, Refusal>,
+        &mut self,
+        call: Call,
+        input: &dyn Debug,
+        library: &Result<T, Refusal>,
+        second: &Result<T, Refusal>,
     ) -> bool {
         match second {
             Ok(_) => self.counts.count(call, 0, 0),
@@ -108,7 +112,13 @@ impl Comparison<'_> {
 
     /// Memory: equal on both sides, and as lent after a refusal.
     fn memory<M: Debug + PartialEq>(
-        &mut self, call: Call, input: &dyn Debug, refused: bool, lent: &M, library: &M, second: &M,
+        &mut self,
+        call: Call,
+        input: &dyn Debug,
+        refused: bool,
+        lent: &M,
+        library: &M,
+        second: &M,
     ) -> bool {
         if refused && library != lent {
             self.differ(call, "a refusal wrote something", input, library, lent);
@@ -124,7 +134,7 @@ impl Comparison<'_> {
         self.counts.passed += good as u64;
     }
 
-    /// A fact about the library's answers alone.
+    /// A fact about one side's answers alone.
     pub fn among(&mut self, what: &str, input: &dyn Debug, library: &dyn Debug, wanted: &dyn Debug, good: bool) {
         self.counts.count(Call::Among, 0, 0);
         if !good {
@@ -138,6 +148,8 @@ impl Comparison<'_> {
         let second = self.second.check(office(sheet));
         let good = self.answers(Call::Check, sheet, &library, &second);
         self.pass(good);
+        let quick = Second::neighbours_first().check(office(sheet));
+        self.among("neighbours first gives the same answer", sheet, &second, &quick, second == quick);
         library
     }
 

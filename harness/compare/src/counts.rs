@@ -13,7 +13,7 @@ pub enum Call {
     Judge,
     Polygon,
     Printed,
-    /// What the library's answers must have among themselves, with the second program left out.
+    /// What one side's answers must have among themselves.
     Among,
 }
 

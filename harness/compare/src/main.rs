@@ -107,7 +107,10 @@ fn main() {
         }
         println!(
             "seed {}: {rounds} rounds, {} offices of up to {} points, {:.1} s",
-            asked.seed, counts.offices, counts.largest, start.elapsed().as_secs_f64()
+            asked.seed,
+            counts.offices,
+            counts.largest,
+            start.elapsed().as_secs_f64()
         );
         (counts.passed, counts.failed + missing.len() as u64)
     };

@@ -242,8 +242,26 @@ impl Comparison<'_> {
     /// Each coordinate replaced by floats that are close to grid numbers, and by some that are far.
     fn coordinates(&mut self, block: &[u8], ring: usize, room: (usize, usize), every: usize) {
         let strange = [
-            f64::INFINITY, f64::NEG_INFINITY, f64::NAN, -f64::NAN, f64::from_bits(0x7FF0_0000_0000_0001), f64::from_bits(u64::MAX),
-            -0.0, -1.0, -5e-324, 5e-324, 0.5, 1.0, 2.0, 4_095.999, 16_382.5, 16_383.0, 16_383.000_000_000_002, 16_384.0, 65_536.0, 1e300,
+            f64::INFINITY,
+            f64::NEG_INFINITY,
+            f64::NAN,
+            -f64::NAN,
+            f64::from_bits(0x7FF0_0000_0000_0001),
+            f64::from_bits(u64::MAX),
+            -0.0,
+            -1.0,
+            -5e-324,
+            5e-324,
+            0.5,
+            1.0,
+            2.0,
+            4_095.999,
+            16_382.5,
+            16_383.0,
+            16_383.000_000_000_002,
+            16_384.0,
+            65_536.0,
+            1e300,
         ];
         for field in (0..2 * (ring + 1)).step_by(every.div_ceil(4)) {
             let at = 13 + 8 * field;
@@ -274,7 +292,8 @@ impl Comparison<'_> {
             let mut bad = text.clone();
             bad.insert(offset, byte);
             self.printed(&bad);
-            let word = *self.random.pick(&[&b"000000"[..], b" 00000 ", b"65535", b" 65535 ", b" 65536 ", b" 99999 ", b"\t", b" 7 "]);
+            let word =
+                *self.random.pick(&[&b"000000"[..], b" 00000 ", b"65535", b" 65535 ", b" 65536 ", b" 99999 ", b"\t", b" 7 "]);
             let mut bad = text.clone();
             bad.splice(offset..offset, word.iter().copied());
             self.printed(&bad);
@@ -287,7 +306,9 @@ impl Comparison<'_> {
             self.printed(&[&text[..], &white].concat());
             self.printed(&[&white[..], &text].concat());
         }
-        for whole in [&b""[..], b" ", b"0", b"0 0", b"3 0 0 0 4 0 0 3", b"0 1 0 0 0", b"65535 65535", b"2 1 0 0 1 1 0 1 0", b"00000 00000"] {
+        for whole in
+            [&b""[..], b" ", b"0", b"0 0", b"3 0 0 0 4 0 0 3", b"0 1 0 0 0", b"65535 65535", b"2 1 0 0 1 1 0 1 0", b"00000 00000"]
+        {
             self.printed(whole);
         }
     }
@@ -314,7 +335,20 @@ impl Comparison<'_> {
             }
             self.polygon(&p, &c, 0, room);
         }
-        for (p, c) in [(0, 0), (4, 0), (8, 6), (11, 0), (12, 0), (12, 12_258), (12, 12_264), (4_096, 6), (4_100, 6), (4_098, 6), (12, 5), (12, 7)] {
+        for (p, c) in [
+            (0, 0),
+            (4, 0),
+            (8, 6),
+            (11, 0),
+            (12, 0),
+            (12, 12_258),
+            (12, 12_264),
+            (4_096, 6),
+            (4_100, 6),
+            (4_098, 6),
+            (12, 5),
+            (12, 7),
+        ] {
             let (p, c) = (noise(p, &mut self.random), noise(c, &mut self.random));
             self.polygon(&p, &c, 0, room);
         }
@@ -346,8 +380,13 @@ impl Comparison<'_> {
         self.c_blocks(&sheet);
     }
 
-    /// The largest offices of each kind, damaged and not, and the largest rings.
+    /// The largest offices of each kind, damaged and not, some of middle size, and the largest rings.
     pub fn large(&mut self) {
+        for _ in 0..4 {
+            let (kind, count) = (*self.random.pick(&Kind::ALL), self.random.within(200, 1_000));
+            let sheet = accepted(kind, count, &mut self.random);
+            self.office(&sheet, 3);
+        }
         for kind in Kind::ALL {
             let sheet = accepted(kind, kind.most(), &mut self.random);
             self.office(&sheet, 3);

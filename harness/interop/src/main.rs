@@ -37,8 +37,7 @@ fn write(library: &dyn Library, count: usize, seed: u64) {
 fn read(library: &dyn Library) {
     for line in stdin().lock().lines() {
         let line = line.expect("a line");
-        let block: Vec<u8> =
-            (0..line.len() / 2).map(|i| u8::from_str_radix(&line[2 * i..2 * i + 2], 16).expect("hex")).collect();
+        let block: Vec<u8> = (0..line.len() / 2).map(|i| u8::from_str_radix(&line[2 * i..2 * i + 2], 16).expect("hex")).collect();
         let (mut xs, mut ys) = (vec![0; 1_024], vec![0; 1_024]);
         match library.read(&block, &mut xs, &mut ys) {
             Ok(ring) => println!("ring{}", words(&xs[..ring], &ys[..ring])),

@@ -102,9 +102,7 @@ impl Library for Port {
 
     fn read(&self, block: &[u8], xs: &mut [u16], ys: &mut [u16]) -> Result<usize, Refusal> {
         let mut answer = [UNSET; 4];
-        unsafe {
-            port_read(block.as_ptr(), block.len(), xs.as_mut_ptr(), xs.len(), ys.as_mut_ptr(), ys.len(), &mut answer)
-        };
+        unsafe { port_read(block.as_ptr(), block.len(), xs.as_mut_ptr(), xs.len(), ys.as_mut_ptr(), ys.len(), &mut answer) };
         taken(answer).map(|values| values[0] as usize)
     }
 

@@ -190,8 +190,7 @@ fn strike(sheet: &mut Sheet, damage: Damage, random: &mut Random) {
             insert_point(sheet, number, x as u16, y as u16);
         }
         Damage::DroppedFan => {
-            let kept: Vec<u16> =
-                sheet.corners.chunks(3).filter(|t| !t.contains(&(point as u16))).flatten().copied().collect();
+            let kept: Vec<u16> = sheet.corners.chunks(3).filter(|t| !t.contains(&(point as u16))).flatten().copied().collect();
             if !kept.is_empty() {
                 sheet.corners = kept;
             }

@@ -120,9 +120,8 @@ pub fn triangulate(xs: &[u16], ys: &[u16], random: &mut Random) -> Option<Vec<u1
 
     for &p in &order[bend + 1..] {
         // What p sees is one run of rim sides; turn the rim so that the run stands at its end.
-        let sees = |rim: &[(usize, usize)], i: usize| {
-            doubled_area(points[rim[i].0], points[rim[(i + 1) % rim.len()].0], points[p]) < 0
-        };
+        let sees =
+            |rim: &[(usize, usize)], i: usize| doubled_area(points[rim[i].0], points[rim[(i + 1) % rim.len()].0], points[p]) < 0;
         let length = rim.len();
         let first = (0..length).find(|&i| sees(&rim, i) && !sees(&rim, (i + length - 1) % length)).unwrap();
         rim.rotate_left(first);

@@ -104,8 +104,7 @@ fn convex(count: usize, random: &mut Random) -> Vec<(i64, i64)> {
         steps.extend(ring);
         size += 1;
     }
-    let mut all: Vec<(i64, i64)> =
-        steps.iter().flat_map(|&(x, y)| [(x, y), (-y, x), (-x, -y), (y, -x)]).collect();
+    let mut all: Vec<(i64, i64)> = steps.iter().flat_map(|&(x, y)| [(x, y), (-y, x), (-x, -y), (y, -x)]).collect();
     let half = |s: &(i64, i64)| (s.1 < 0 || (s.1 == 0 && s.0 < 0)) as u8;
     all.sort_by(|a, b| half(a).cmp(&half(b)).then((b.0 * a.1).cmp(&(a.0 * b.1))));
     let (mut x, mut y) = (0, 0);

@@ -47,6 +47,37 @@ impl Circle {
     }
 }
 
+/// The directed sides whose reverse is absent.
+fn rim_of(triangles: &[[u16; 3]], sides: &Sides) -> Vec<(u16, u16)> {
+    let all = triangles.iter().flat_map(|&[a, b, c]| [(a, b), (b, c), (c, a)]);
+    all.filter(|&(from, to)| sides.get((to, from)).is_none()).collect()
+}
+
+/// Whether a rim that is one ring never turns right and goes round once. It then bounds a convex piece, which the
+/// triangles, none of them negative, cover once: no point is right of it, and no two triangles overlap. Where the circles of
+/// neighbours are clear besides, all circles are.
+fn turns_left(rim: &[(u16, u16)], points: usize, place: impl Fn(u16) -> (i64, i64)) -> bool {
+    let mut next = vec![0; points];
+    for &(from, to) in rim {
+        next[from as usize] = to;
+    }
+    let step = |from: u16, to: u16| {
+        let ((ax, ay), (bx, by)) = (place(from), place(to));
+        (bx - ax, by - ay)
+    };
+    let upward = |d: (i64, i64)| d.1 > 0 || (d.1 == 0 && d.0 > 0);
+    let mut rounds = 0;
+    for &(from, to) in rim {
+        let (here, there) = (step(from, to), step(to, next[to as usize]));
+        let turn = here.0 * there.1 - here.1 * there.0;
+        if turn < 0 || (turn == 0 && here.0 * there.0 + here.1 * there.1 < 0) {
+            return false;
+        }
+        rounds += (!upward(here) && upward(there)) as u32;
+    }
+    rounds == 1
+}
+
 impl Second {
     /// The rim's length, or the first refusal of 1 to 13.
     pub fn check(&self, office: Office) -> Result<usize, Refusal> {
@@ -85,8 +116,7 @@ impl Second {
 
         let place = |p: u16| (xs[p as usize] as i64, ys[p as usize] as i64);
         let triangles: Vec<[u16; 3]> = corners.chunks_exact(3).map(|t| [t[0], t[1], t[2]]).collect();
-        let circles: Vec<Circle> =
-            triangles.iter().map(|t| Circle::through(place(t[0]), place(t[1]), place(t[2]))).collect();
+        let circles: Vec<Circle> = triangles.iter().map(|t| Circle::through(place(t[0]), place(t[1]), place(t[2]))).collect();
         if let Some(t) = lowest(triangles.len(), high, |t| circles[t].d <= 0) {
             return refuse(8, t);
         }
@@ -106,6 +136,21 @@ impl Second {
             return refuse(10, p);
         }
 
+        let areas = || circles.iter().map(|c| c.d as u32).collect();
+        let rim = rim_of(&triangles, &sides);
+        if self.neighbours_first && room {
+            let across = |from, to| sides.get((to, from)).map(|t| triangles[t as usize]);
+            let clear = triangles.iter().zip(&circles).all(|(&[a, b, c], circle)| {
+                [(a, b), (b, c), (c, a)]
+                    .iter()
+                    .all(|&(from, to)| across(from, to).is_none_or(|other| other.iter().all(|&p| circle.side_of(place(p)) >= 0)))
+            });
+            if clear && self.one_ring(&rim, points) && turns_left(&rim, points, place) {
+                let areas = areas();
+                return Ok(Sheet { sides, rim, areas });
+            }
+        }
+
         let all: Vec<(i64, i64)> = (0..points as u16).map(place).collect();
         let outermost = if self.is(Wrong::RefusesOnCircle) { 1 } else { 0 };
         let crossed = |t: usize| {
@@ -113,9 +158,7 @@ impl Second {
             if self.is(Wrong::CircleOfNeighboursOnly) {
                 let [a, b, c] = triangles[t];
                 return [(b, a), (c, b), (a, c)].iter().any(|&side| {
-                    sides.get(side).is_some_and(|other| {
-                        triangles[other as usize].iter().any(|&p| circle.side_of(place(p)) < 0)
-                    })
+                    sides.get(side).is_some_and(|other| triangles[other as usize].iter().any(|&p| circle.side_of(place(p)) < 0))
                 });
             }
             if outermost > 0 {
@@ -128,14 +171,6 @@ impl Second {
             return refuse(11, t);
         }
 
-        let mut rim = Vec::new();
-        for &[a, b, c] in &triangles {
-            for (from, to) in [(a, b), (b, c), (c, a)] {
-                if sides.get((to, from)).is_none() {
-                    rim.push((from, to));
-                }
-            }
-        }
         if !self.one_ring(&rim, points) {
             return refuse(12, 0);
         }
@@ -162,7 +197,7 @@ impl Second {
         if !room {
             return refuse(4, 0);
         }
-        let areas = circles.iter().map(|c| c.d as u32).collect();
+        let areas = areas();
         Ok(Sheet { sides, rim, areas })
     }
 

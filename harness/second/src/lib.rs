@@ -62,17 +62,24 @@ pub struct Lists<'a> {
 #[derive(Clone, Copy, Debug, Default)]
 pub struct Second {
     wrong: Option<Wrong>,
+    neighbours_first: bool,
 }
 
 impl Second {
     /// The program that follows the document.
     pub fn right() -> Second {
-        Second { wrong: None }
+        Second::default()
+    }
+
+    /// The same, quicker where it accepts: neighbours are asked first whether a circle holds a corner across, and the rim
+    /// whether it only turns left. Where either says no, the table is gone through as it stands.
+    pub fn neighbours_first() -> Second {
+        Second { wrong: None, neighbours_first: true }
     }
 
     /// The program that is wrong in the one way named.
     pub fn wrong(way: Wrong) -> Second {
-        Second { wrong: Some(way) }
+        Second { wrong: Some(way), neighbours_first: false }
     }
 
     fn is(&self, way: Wrong) -> bool {

@@ -184,9 +184,7 @@ pub(crate) struct Entry {
 
 impl Second {
     fn room(office: Office, lent: &Lent) -> bool {
-        lent.kept.len() >= office.corners.len() / 3
-            && lent.rim.len() >= office.xs.len()
-            && lent.ring.len() >= office.xs.len()
+        lent.kept.len() >= office.corners.len() / 3 && lent.rim.len() >= office.xs.len() && lent.ring.len() >= office.xs.len()
     }
 
     pub fn draw(&self, office: Office, limit: u32, lent: &mut Lent) -> Result<Tally, Refusal> {
@@ -207,10 +205,8 @@ impl Second {
 
     pub fn list(&self, office: Office, lent: &mut Lent, lists: &mut Lists) -> Result<usize, Refusal> {
         let most = office.xs.len().saturating_sub(2);
-        let room = Second::room(office, lent)
-            && lists.least.len() >= most
-            && lists.peeled.len() >= most
-            && lists.area.len() >= most;
+        let room =
+            Second::room(office, lent) && lists.least.len() >= most && lists.peeled.len() >= most && lists.area.len() >= most;
         let mut peeling = Peeling::start(*self, office, self.sheet(office, room)?);
         let entries = self.entries(&mut peeling, false)?;
         for (i, entry) in entries.iter().enumerate().take(most) {

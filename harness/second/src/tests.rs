@@ -31,8 +31,7 @@ fn drawn(points: (&[u16], &[u16]), corners: &[u16], limit: u32) -> Result<(Tally
 const FIVE: (&[u16], &[u16]) = (&[0, 10, 10, 0, 5], &[0, 0, 10, 10, 2]);
 const FIVE_CORNERS: &[u16] = &[0, 1, 4, 1, 2, 4, 2, 3, 4, 3, 0, 4];
 const TEN: (&[u16], &[u16]) = (&[10, 17, 20, 17, 10, 3, 0, 3, 9, 11], &[0, 3, 10, 17, 20, 17, 10, 3, 10, 10]);
-const TEN_CORNERS: &[u16] =
-    &[0, 1, 9, 1, 2, 9, 2, 3, 9, 3, 4, 9, 4, 8, 9, 4, 5, 8, 5, 6, 8, 6, 7, 8, 7, 0, 8, 0, 9, 8];
+const TEN_CORNERS: &[u16] = &[0, 1, 9, 1, 2, 9, 2, 3, 9, 3, 4, 9, 4, 8, 9, 4, 5, 8, 5, 6, 8, 6, 7, 8, 7, 0, 8, 0, 9, 8];
 const SQUARE: (&[u16], &[u16]) = (&[0, 10, 10, 0], &[0, 0, 10, 10]);
 
 #[test]
@@ -210,9 +209,8 @@ fn the_writer_refuses_in_order() {
 fn the_c_function_asks_in_order() {
     let points = [0u8, 0, 0, 0, 4, 0, 0, 0, 0, 0, 3, 0];
     let triangles = [0u8, 0, 1, 0, 2, 0];
-    let ask = |points: &[u8], triangles: &[u8], room: usize| {
-        Second::right().outline_polygon(points, triangles, 0, &mut vec![0; room])
-    };
+    let ask =
+        |points: &[u8], triangles: &[u8], room: usize| Second::right().outline_polygon(points, triangles, 0, &mut vec![0; room]);
     assert_eq!(ask(&points, &triangles, 77), 77);
     assert_eq!(ask(&points, &triangles, 76), -32);
     assert_eq!(ask(&points[..11], &[], 0), -1);
