@@ -6,6 +6,7 @@ use library::Library;
 use offices::{Random, Sheet};
 use second::{Coordinate, Lent, Lists, Office, Refusal, Second, Tally};
 use std::fmt::Debug;
+use std::ops::{Deref, DerefMut};
 
 pub struct Comparison<'a> {
     pub library: &'a dyn Library,
@@ -27,15 +28,42 @@ pub struct Slack {
     pub area: isize,
 }
 
+/// Random numbers with a fence on either side. What is lent lies between the fences; comparing two compares the fences too.
+#[derive(Clone, Debug, PartialEq, Eq)]
+pub struct Fenced<T>(Vec<T>);
+
+const FENCE: usize = 16;
+
+impl<T> Fenced<T> {
+    fn noise(length: usize, random: &mut Random, number: fn(u64) -> T) -> Fenced<T> {
+        Fenced((0..length + 2 * FENCE).map(|_| number(random.next())).collect())
+    }
+}
+
+impl<T> Deref for Fenced<T> {
+    type Target = [T];
+
+    fn deref(&self) -> &[T] {
+        &self.0[FENCE..self.0.len() - FENCE]
+    }
+}
+
+impl<T> DerefMut for Fenced<T> {
+    fn deref_mut(&mut self) -> &mut [T] {
+        let end = self.0.len() - FENCE;
+        &mut self.0[FENCE..end]
+    }
+}
+
 /// The memory that a draw or a list borrows.
 #[derive(Clone, Debug, PartialEq, Eq)]
 pub struct Memory {
-    pub kept: Vec<u8>,
-    pub rim: Vec<u8>,
-    pub ring: Vec<u16>,
-    pub least: Vec<u32>,
-    pub peeled: Vec<u32>,
-    pub area: Vec<u32>,
+    pub kept: Fenced<u8>,
+    pub rim: Fenced<u8>,
+    pub ring: Fenced<u16>,
+    pub least: Fenced<u32>,
+    pub peeled: Fenced<u32>,
+    pub area: Fenced<u32>,
 }
 
 impl Memory {
@@ -44,12 +72,12 @@ impl Memory {
         let points = sheet.points();
         let most = points.saturating_sub(2);
         Memory {
-            kept: noise(room(sheet.triangles(), slack.kept), random),
-            rim: noise(room(points, slack.rim), random),
-            ring: (0..room(points, slack.ring)).map(|_| random.next() as u16).collect(),
-            least: (0..room(most, slack.least)).map(|_| random.next() as u32).collect(),
-            peeled: (0..room(most, slack.peeled)).map(|_| random.next() as u32).collect(),
-            area: (0..room(most, slack.area)).map(|_| random.next() as u32).collect(),
+            kept: Fenced::noise(room(sheet.triangles(), slack.kept), random, |n| n as u8),
+            rim: Fenced::noise(room(points, slack.rim), random, |n| n as u8),
+            ring: Fenced::noise(room(points, slack.ring), random, |n| n as u16),
+            least: Fenced::noise(room(most, slack.least), random, |n| n as u32),
+            peeled: Fenced::noise(room(most, slack.peeled), random, |n| n as u32),
+            area: Fenced::noise(room(most, slack.area), random, |n| n as u32),
         }
     }
 
@@ -209,7 +237,7 @@ impl Comparison<'_> {
     }
 
     pub fn write(&mut self, xs: &[u16], ys: &[u16], room: usize) -> Option<Vec<u8>> {
-        let lent = noise(room, &mut self.random);
+        let lent = Fenced::noise(room, &mut self.random, |n| n as u8);
         let (mut here, mut there) = (lent.clone(), lent.clone());
         let library = self.library.write(xs, ys, &mut here);
         let second = self.second.write(xs, ys, &mut there);
@@ -221,7 +249,7 @@ impl Comparison<'_> {
     }
 
     pub fn read(&mut self, block: &[u8], room: (usize, usize)) -> Result<(Vec<u16>, Vec<u16>), Refusal> {
-        let mut list = |length: usize| (0..length).map(|_| self.random.next() as u16).collect::<Vec<u16>>();
+        let mut list = |length: usize| Fenced::noise(length, &mut self.random, |n| n as u16);
         let lent = (list(room.0), list(room.1));
         let (mut here, mut there) = (lent.clone(), lent.clone());
         let library = self.library.read(block, &mut here.0, &mut here.1);
@@ -231,9 +259,7 @@ impl Comparison<'_> {
             && self.memory(Call::Read, &input, library.is_err(), &lent, &here, &there);
         self.pass(good);
         let ring = library?.min(room.0).min(room.1);
-        here.0.truncate(ring);
-        here.1.truncate(ring);
-        Ok(here)
+        Ok((here.0[..ring].to_vec(), here.1[..ring].to_vec()))
     }
 
     pub fn judge(&mut self, block: &[u8], order: u8, place: usize) -> Result<Coordinate, Refusal> {
@@ -245,7 +271,7 @@ impl Comparison<'_> {
     }
 
     pub fn polygon(&mut self, points: &[u8], triangles: &[u8], limit: u32, room: usize) -> i64 {
-        let lent = noise(room, &mut self.random);
+        let lent = Fenced::noise(room, &mut self.random, |n| n as u8);
         let (mut here, mut there) = (lent.clone(), lent.clone());
         let library = self.library.outline_polygon(points, triangles, limit, &mut here);
         let second = self.second.outline_polygon(points, triangles, limit, &mut there);

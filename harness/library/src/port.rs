@@ -3,6 +3,8 @@
 
 use crate::Library;
 use second::{Coordinate, Lent, Lists, Office, Refusal, Tally};
+use std::io::Write;
+use std::process::{Command, Stdio};
 
 const UNSET: u64 = u64::MAX;
 type Answer = [u64; 4];
@@ -126,7 +128,16 @@ impl Library for Port {
         }
     }
 
-    fn printed(&self, _text: &[u8]) -> Vec<u8> {
-        Vec::new()
+    /// The list printer itself, as a program of its own.
+    fn printed(&self, text: &[u8]) -> Vec<u8> {
+        let program = concat!(env!("CARGO_MANIFEST_DIR"), "/../../target/bin/outlines");
+        let mut printer = Command::new(program)
+            .stdin(Stdio::piped())
+            .stdout(Stdio::piped())
+            .spawn()
+            .expect("target/bin/outlines, made by rt check");
+        // It may end before it has read a text that is too long.
+        let _ = printer.stdin.take().unwrap().write_all(text);
+        printer.wait_with_output().expect("what the printer prints").stdout
     }
 }
