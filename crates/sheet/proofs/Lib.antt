@@ -6,6 +6,9 @@ pub mod Balance
 pub mod OneRing
 pub mod Single
 pub mod Accepted
+pub mod AtPoint
+pub mod Plots
+pub mod Linear
 pub mod Hull
 pub mod Length
 pub mod Sign

@@ -27,7 +27,7 @@ module _ (o : Office) (whole : sides o % 3 ≡ 0) (single : Single o) where
   ring-of e = (suc n, round-of (Tested o) n row (λ i j a b h. single-row i j (omega (arith, last-is)) (omega (arith, last-is)) h) (λ i _. goes i) closes all)
     where
       parts : (0 < rims o) × (once (walk (after o) (start o) (rims o)) ≡ true) × (stepped (after o) (start o) (rims o) ≡ start o)
-      parts = let h = simp (and-iff, eqb-iff, ltb-iff) at e in (h .0 .0, h .0 .1, h .1)
+      parts = let h = simp (and-iff, eqb-iff, ltb-iff) at e in (h .0, h .1 .0, h .1 .1)
 
       n : ℕ
       n = rims o - 1
@@ -71,11 +71,11 @@ module _ (o : Office) (whole : sides o % 3 ≡ 0) (single : Single o) where
       let (i, f, _) = r .all (start o) (head o (first (rim o) (sides o))) (first (rim o) (sides o), a, b, refl, refl) in
       let at : (j : ℕ) → stepped (after o) (start o) j ≡ r .at (i + j) = λ j. ap (λ p. stepped (after o) p j) (sym f) ∙ stepped-is (sides o) (rim o) (tail o) (head o) r i j in
       simp (and-iff, eqb-iff, ltb-iff) (
+        (let z = r .long in omega arith),
         (
-          (let z = r .long in omega arith),
           once-walk (after o) (start o) (rims o) .1 (λ j k x y e. r .apart (i + j) (k - j) (omega arith) (omega arith) (ap (r .at) (omega arith) ∙ sym (at k) ∙ sym e ∙ at j)),
+          at (rims o) ∙ ap (λ k. r .at (i + k)) same ∙ r .back i ∙ f,
         ),
-        at (rims o) ∙ ap (λ k. r .at (i + k)) same ∙ r .back i ∙ f,
       )
 
   pub one-ring-iff : (one-ring o ≡ true) ↔ ((m : ℕ) × Round (Along o) m)

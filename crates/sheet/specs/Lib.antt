@@ -2,3 +2,5 @@ pub mod Plane
 pub mod Office
 pub mod Verdict
 pub mod Acceptable
+pub mod Code
+pub mod Answer

@@ -113,11 +113,15 @@ module _ (o : Office) where
 
   -- there is a rim, and going along it for as many steps as it has sides visits as many points and comes back to the start
   abbrev pub one-ring : Bool
-  one-ring = ltb 0 rims && once (walk after start rims) && eqb (stepped after start rims) start
+  one-ring = ltb 0 rims && (once (walk after start rims) && eqb (stepped after start rims) start)
+
+  -- side s is on the rim, and point p lies strictly right of it
+  abbrev pub right : ℕ → ℕ → Bool
+  right p s = rim s && ltZ (turn (point (tail s)) (point (head s)) (point p)) (pos 0)
 
   -- point p lies strictly right of a rim side
   abbrev pub outer : ℕ → Bool
-  outer p = any (λ s. rim s && ltZ (turn (point (tail s)) (point (head s)) (point p)) (pos 0)) (sides o)
+  outer p = any (right p) (sides o)
 
 -- the place of the first side that runs back along side s, or the number of sides
 abbrev pub mate-of : List ℕ → ℕ → ℕ

@@ -1,6 +1,33 @@
 // Layer 1, the check: is this a Delaunay triangulation of these points? Document 01, 'What makes a triangulation acceptable'.
+// Points go by their x and y lists, triangles by a flat list of three point numbers each.
+pub mod circles;
 pub mod plane;
+pub mod points;
+pub mod ring;
 pub mod sides;
+mod spots;
+pub mod triangles;
+
+use circles::first_invaded;
+use points::first_again;
+use points::first_large;
+use ring::first_outer;
+use ring::is_one_ring;
+use ring::rim_length;
+use sides::mates;
+use triangles::first_double;
+use triangles::first_flat;
+use triangles::first_no_point;
+use triangles::first_unused;
+ghost use mathlib.Core.Path.{_≡_};
+ghost use mathlib.Core.Bool.{true};
+ghost use lib.ListN.{length};
+ghost use Prim.Native.Nat.{_%_, _<_, _≤_};
+ghost use Rattle.sheet.specs.Office.{office};
+ghost use Rattle.sheet.specs.Verdict as Verdict;
+ghost use Rattle.sheet.specs.Verdict.{verdict, points-verdict, triangles-verdict, rim-verdict};
+ghost use Rattle.sheet.specs.Code.{Plotted};
+ghost use Rattle.sheet.specs.Answer.{answer};
 
 // Document 01's number for what is wrong, and where.
 pub struct Refusal {
@@ -12,4 +39,101 @@ pub struct Refusal {
 pub enum Checked {
     Accepted(usize),
     Refused(Refusal),
+}
+
+// Accepts exactly the acceptable offices, for all lists that can be lent.
+pub fn check(xs: &[u16], ys: &[u16], corners: &[u16]) -> Checked
+    ensures { λ r. ⌜ answer r ≡ verdict true (office (now (xs .entry)) (now (ys .entry)) (now (corners .entry))) ⌝ }
+{
+    check_lent(xs, ys, corners, true)
+}
+
+// The same for a layer above that lends buffers: `room` says whether they are long enough, and refusal 4 has its place in the order.
+pub fn check_lent(xs: &[u16], ys: &[u16], corners: &[u16], room: bool) -> Checked
+    ensures { λ r. ⌜ answer r ≡ verdict room (office (now (xs .entry)) (now (ys .entry)) (now (corners .entry))) ⌝ }
+{
+    if xs.len() != ys.len() {
+        return refused(1, 0);
+    }
+    if (xs.len() < 3) | (1024 < xs.len()) {
+        return refused(2, 0);
+    }
+    if (corners.len() == 0) | (corners.len() % 3 != 0) | (6129 < corners.len()) {
+        return refused(3, 0);
+    }
+    if !room {
+        return refused(4, 0);
+    }
+    check_points(xs, ys, corners)
+}
+
+fn refused(number: u8, place: usize) -> Checked
+    ensures { λ r. ⌜ answer r ≡ Verdict.refused number place ⌝ }
+{
+    Checked::Refused(Refusal {
+        number: number,
+        place: place,
+    })
+}
+
+// Refusals 5 to 7, and those after them.
+fn check_points(xs: &[u16], ys: &[u16], corners: &[u16]) -> Checked
+    requires { ⌜ (length (now xs) ≡ length (now ys)) × (3 ≤ length (now xs)) × (length (now xs) ≤ 1024) × (length (now corners) % 3 ≡ 0) × (length (now corners) ≤ 6129) ⌝ }
+    ensures { λ r. ⌜ answer r ≡ points-verdict (office (now (xs .entry)) (now (ys .entry)) (now (corners .entry))) ⌝ }
+{
+    let large = first_large(xs, ys);
+    if large < xs.len() {
+        return refused(5, large);
+    }
+    let again = first_again(xs, ys);
+    if again < xs.len() {
+        return refused(6, again);
+    }
+    let no_point = first_no_point(xs, corners);
+    if no_point < corners.len() {
+        return refused(7, no_point);
+    }
+    check_triangles(xs, ys, corners)
+}
+
+// Refusals 8 to 10, and those after them.
+fn check_triangles(xs: &[u16], ys: &[u16], corners: &[u16]) -> Checked
+    requires { ⌜ Plotted (office (now xs) (now ys) (now corners)) ⌝ }
+    ensures { λ r. ⌜ answer r ≡ triangles-verdict (office (now (xs .entry)) (now (ys .entry)) (now (corners .entry))) ⌝ }
+{
+    let flat = first_flat(xs, ys, corners);
+    if flat < corners.len() / 3 {
+        return refused(8, flat);
+    }
+    let double = first_double(corners);
+    if double < corners.len() / 3 {
+        return refused(9, double);
+    }
+    let unused = first_unused(corners, xs.len());
+    if unused < xs.len() {
+        return refused(10, unused);
+    }
+    check_rim(xs, ys, corners)
+}
+
+// Refusals 11 to 13, and acceptance.
+fn check_rim(xs: &[u16], ys: &[u16], corners: &[u16]) -> Checked
+    requires { ⌜ Plotted (office (now xs) (now ys) (now corners)) ⌝ }
+    ensures { λ r. ⌜ answer r ≡ rim-verdict (office (now (xs .entry)) (now (ys .entry)) (now (corners .entry))) ⌝ }
+{
+    let invaded = first_invaded(xs, ys, corners);
+    if invaded < corners.len() / 3 {
+        return refused(11, invaded);
+    }
+    let mate = mates(corners);
+    let rim = rim_length(corners, &mate);
+    let one = is_one_ring(corners, &mate, rim);
+    if !one {
+        return refused(12, 0);
+    }
+    let outer = first_outer(xs, ys, corners, &mate);
+    if outer < xs.len() {
+        return refused(13, outer);
+    }
+    Checked::Accepted(rim)
 }

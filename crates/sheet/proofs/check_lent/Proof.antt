@@ -1,0 +1,35 @@
+-- `sheet::check_lent` meets its contract: each early return is its refusal. Assumes nothing.
+use mathlib.Core.Path.{_≡_, ap}
+use mathlib.Core.Bool.{false, not, _||_}
+use Prim.Native.Nat.{ℕ, _%_, _≤_}
+use native.Mathlib.Omega.{arith}
+use borrow.Author.Needs.{needs}
+use borrow.Author.Tests.{eq-eqb, ne-eqb}
+use lib.Dec.{ltb, eqb}
+use Rattle.laws.proofs.Search.{when-broken, when-sound}
+use Rattle.laws.proofs.Test.{plain}
+use Rattle.sheet.specs.Verdict.{verdict}
+use Rattle.sheet.proofs.check_lent.Statement.{statement}
+use Rattle.sheet.proofs.check_lent.Tie as tie
+
+sizes : (n m : ℕ) → (ltb n 3 || ltb 1024 n) ≡ false → (eqb m 0 || not (eqb (m % 3) 0) || ltb 6129 m) ≡ false → (3 ≤ n) × (n ≤ 1024) × (m % 3 ≡ 0) × (m ≤ 6129)
+sizes n m e f =
+    let h = simp plain at e in
+    let k = simp plain at f in
+    (omega arith, omega arith, k .0 .1, omega arith)
+
+pub check-lent-spec : {M : Type 1} → statement M
+unfolding verdict
+check-lent-spec =
+    tie.close
+    (tie.spec
+    (λ c κs. search needs)
+    (λ c. when-broken _ (ap not (ne-eqb _ _ (c .before .if1 .taken))) (c .refused .ensures))
+    (λ c κs. search needs)
+    (λ c. when-sound _ (ap not (eq-eqb _ _ (c .before .before .if1 .left))) (when-broken _ (c .before .if2 .taken) (c .refused2 .ensures)))
+    (λ c κs. search needs)
+    (λ c. when-sound _ (ap not (eq-eqb _ _ (c .before .before .before .if1 .left))) (when-sound _ (c .before .before .if2 .left) (when-broken _ (c .before .if3 .taken) (c .refused3 .ensures))))
+    (λ c κs. search needs)
+    (λ c. when-sound _ (ap not (eq-eqb _ _ (c .before .before .before .before .if1 .left))) (when-sound _ (c .before .before .before .if2 .left) (when-sound _ (c .before .before .if3 .left) (when-broken _ (c .before .if4 .taken) (c .refused4 .ensures)))))
+    (λ c κs. let (a, b, d, e) = sizes _ _ (c .before .before .if2 .left) (c .before .if3 .left) in (c .before .before .before .if1 .left, a, b, d, e))
+    (λ c. when-sound _ (ap not (eq-eqb _ _ (c .before .before .before .before .if1 .left))) (when-sound _ (c .before .before .before .if2 .left) (when-sound _ (c .before .before .if3 .left) (when-sound _ (c .before .if4 .left) (c .check-points .ensures))))))

@@ -1,0 +1,31 @@
+-- `sheet::check_rim` meets its contract: each early return is its refusal. Assumes nothing.
+use mathlib.Core.Path.{_≡_, sym, ap, _∙_}
+use mathlib.Core.Bool.{not}
+use native.Mathlib.Omega.{arith}
+use borrow.Author.Needs.{needs}
+use Rattle.laws.proofs.Search.{at-hit, at-none, when-broken, when-sound}
+use Rattle.sheet.specs.Verdict.{accepted}
+use Rattle.sheet.proofs.check_rim.Statement.{statement}
+use Rattle.sheet.proofs.check_rim.Tie as tie
+
+ring-requires : tie.Need-is-one-ring-requires
+ring-requires c κs =
+    let p = c .before .before .before .before .before .before .before .before .before .pre in
+    ((c .before .before .before .mates .ensures, p .short, p .whole, λ s l. omega (arith, p .numbered s l, p .few)), c .before .rim-length .ensures)
+
+pub check-rim-spec : {M : Type 1} → statement M
+check-rim-spec =
+    tie.close
+    (tie.spec
+    (λ c κs. search needs)
+    (λ c κs. search needs)
+    (λ c. at-hit _ _ _ _ _ _ (c .before .before .first-invaded .ensures) (c .before .if1 .taken) (c .refused .ensures))
+    (λ c κs. search needs)
+    (λ c κs. search needs)
+    ring-requires
+    (λ c κs. search needs)
+    (λ c. at-none _ _ _ _ _ _ (c .before .before .before .before .before .before .before .before .first-invaded .ensures) (c .before .before .before .before .before .before .before .if1 .left) (when-broken _ (ap not (sym (c .before .before .is-one-ring .ensures)) ∙ c .before .if2 .taken) (c .refused2 .ensures)))
+    (λ c κs. search needs)
+    (λ c κs. search needs)
+    (λ c. at-none _ _ _ _ _ _ (c .before .before .before .before .before .before .before .before .before .before .before .first-invaded .ensures) (c .before .before .before .before .before .before .before .before .before .before .if1 .left) (when-sound _ (ap not (sym (c .before .before .before .before .before .is-one-ring .ensures)) ∙ c .before .before .before .before .if2 .left) (at-hit _ _ _ _ _ _ (c .before .before .first-outer .ensures) (c .before .if3 .taken) (c .refused3 .ensures))))
+    (λ c. at-none _ _ _ _ _ _ (c .before .before .before .before .before .before .before .before .before .before .first-invaded .ensures) (c .before .before .before .before .before .before .before .before .before .if1 .left) (when-sound _ (ap not (sym (c .before .before .before .before .is-one-ring .ensures)) ∙ c .before .before .before .if2 .left) (at-none _ _ _ _ _ _ (c .before .first-outer .ensures) (c .if3 .left) (ap accepted (c .before .before .before .before .before .before .rim-length .ensures))))))

@@ -1,0 +1,51 @@
+-- `sheet::circles::circle_through` meets its contract. Assumes nothing.
+use mathlib.Core.Path.{_≡_, refl, _∙_}
+use Prim.Native.Nat.{_≤_}
+use lib.IntN.{ℤ, natAbs, _+ℤ_, _*ℤ_}
+use mir.Syntax.{w64}
+use mir.Val.{toZ, ofZ}
+use mir.Facts.{toZ-ofZ}
+use borrow.Author.Needs.{needs}
+use Rattle.laws.proofs.Exact.{fits}
+use Rattle.sheet.proofs.circles.circle_through.Statement.{statement}
+use Rattle.sheet.proofs.circles.circle_through.Tie as tie
+
+got : {r z : ℤ} → (r ≡ z) × (natAbs r ≤ 536805378) → toZ w64 (ofZ w64 r) ≡ z
+got {r} h = toZ-ofZ (fits w64 536805378 r r refl (h .1) tt) ∙ h .0
+
+weighed : {a u b v c w a′ u′ b′ v′ c′ w′ : ℤ} → a ≡ a′ → u ≡ u′ → b ≡ b′ → v ≡ v′ → c ≡ c′ → w ≡ w′
+    → a *ℤ u +ℤ b *ℤ v +ℤ c *ℤ w ≡ a′ *ℤ u′ +ℤ b′ *ℤ v′ +ℤ c′ *ℤ w′
+weighed e f g h i j = cc
+
+returns : tie.Need-returns
+returns c = record {
+  across-is = toZ-ofZ (search needs) ∙ c .before .before .before .before .before .before .before .before .before .weighted .ensures
+      ∙ weighed (got (c .before .before .before .before .before .before .before .before .before .before .before .before .before .before .before .raised .ensures)) (got (c .before .before .before .before .before .before .before .before .before .before .before .before .gap .ensures)) (got (c .before .before .before .before .before .before .before .before .before .before .before .before .before .before .raised2 .ensures)) (got (c .before .before .before .before .before .before .before .before .before .before .before .gap2 .ensures)) (got (c .before .before .before .before .before .before .before .before .before .before .before .before .before .raised3 .ensures)) (got (c .before .before .before .before .before .before .before .before .before .before .gap3 .ensures));
+  up-is = toZ-ofZ (search needs) ∙ c .before .before .before .before .before .weighted2 .ensures
+      ∙ weighed (got (c .before .before .before .before .before .before .before .before .before .before .before .before .before .before .before .raised .ensures)) (got (c .before .before .before .before .before .before .before .before .gap4 .ensures)) (got (c .before .before .before .before .before .before .before .before .before .before .before .before .before .before .raised2 .ensures)) (got (c .before .before .before .before .before .before .before .gap5 .ensures)) (got (c .before .before .before .before .before .before .before .before .before .before .before .before .before .raised3 .ensures)) (got (c .before .before .before .before .before .before .gap6 .ensures));
+  rest-is = toZ-ofZ (search needs) ∙ c .before .weighted3 .ensures
+      ∙ weighed (got (c .before .before .before .before .before .before .before .before .before .before .before .before .before .before .before .raised .ensures)) (got (c .before .before .before .before .cross .ensures)) (got (c .before .before .before .before .before .before .before .before .before .before .before .before .before .before .raised2 .ensures)) (got (c .before .before .before .cross2 .ensures)) (got (c .before .before .before .before .before .before .before .before .before .before .before .before .before .raised3 .ensures)) (got (c .before .before .cross3 .ensures));
+  lift-is = toZ-ofZ (search needs) ∙ c .turn .ensures;
+}
+
+pub circle-through-spec : {M : Type 1} → statement M
+circle-through-spec =
+    tie.close
+    (tie.spec
+    (λ c κs. search needs)
+    (λ c κs. search needs)
+    (λ c κs. search needs)
+    (λ c κs. search needs)
+    (λ c κs. search needs)
+    (λ c κs. search needs)
+    (λ c κs. search needs)
+    (λ c κs. search needs)
+    (λ c κs. search needs)
+    (λ c κs. search needs)
+    (λ c κs. search needs)
+    (λ c κs. search needs)
+    (λ c κs. search needs)
+    (λ c κs. search needs)
+    (λ c κs. search needs)
+    (λ c κs. search needs)
+    returns)

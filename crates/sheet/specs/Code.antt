@@ -1,0 +1,58 @@
+-- What the code's values stand for. Assumes nothing.
+use mathlib.Core.Path.{_≡_}
+use mathlib.Core.List.{List, []}
+use Prim.Native.Nat.{ℕ, _+_, _*_, _%_, _<_, _≤_}
+use lib.IntN.{ℤ, pos, _+ℤ_, _-ℤ_, _*ℤ_}
+use lib.ListN.{length, getD, take}
+use Rattle.laws.specs.First.{table}
+use Rattle.sheet.specs.Plane.{Point, Small, spot, dx, dy, turn}
+use Rattle.sheet.specs.Office.{Office, office, points, sides, point, tail, mate-of}
+
+-- the points alone
+abbrev pub cloud : List ℕ → List ℕ → Office
+cloud xs ys = office xs ys []
+
+-- each corner is one of n points
+abbrev pub Numbered : List ℕ → ℕ → Type 0
+Numbered corners n = (s : ℕ) → s < length corners → getD corners s 0 < n
+
+-- what the refusals 1 to 7 leave: every corner is a point of the grid
+pub record Plotted (o : Office) : Type 0 where
+  pub paired : length (o .xs) ≡ length (o .ys)
+  pub few : points o ≤ 1024
+  pub some : 0 < points o
+  pub whole : sides o % 3 ≡ 0
+  pub short : sides o ≤ 6129
+  pub small : (p : ℕ) → p < points o → Small (point o p)
+  pub numbered : (s : ℕ) → s < sides o → tail o s < points o
+
+-- the coordinates of point p
+pub record At (o : Office) (p x y : ℕ) : Type 0 where
+  pub across : x ≡ getD (o .xs) p 0
+  pub up : y ≡ getD (o .ys) p 0
+  pub small : Small (spot x y)
+
+-- the table of mates in front of a longer list
+abbrev pub Mated : List ℕ → List ℕ → Type 0
+Mated corners mate = take (length corners) mate ≡ table (mate-of corners) (length corners)
+
+-- x² + y² of point p
+abbrev pub height : List ℕ → List ℕ → ℕ → ℕ
+height xs ys p = getD xs p 0 * getD xs p 0 + getD ys p 0 * getD ys p 0
+
+abbrev pub raised : Point → ℤ
+raised a = pos (a .x * a .x + a .y * a .y)
+
+-- twice the signed area that the way from a to b sweeps, seen from (0, 0)
+abbrev pub swept : Point → Point → ℤ
+swept a b = pos (a .x) *ℤ pos (b .y) -ℤ pos (b .x) *ℤ pos (a .y)
+
+-- the in-circle value of the triangle a b c at (x, y) is across x + up y + rest - lift (x² + y²)
+pub record Coefficients (a b c : Point) (across up rest lift : ℤ) : Type 0 where
+  pub across-is : across ≡ raised a *ℤ dy c b +ℤ raised b *ℤ dy a c +ℤ raised c *ℤ dy b a
+  pub up-is : up ≡ raised a *ℤ dx b c +ℤ raised b *ℤ dx c a +ℤ raised c *ℤ dx a b
+  pub rest-is : rest ≡ raised a *ℤ swept b c +ℤ raised b *ℤ swept c a +ℤ raised c *ℤ swept a b
+  pub lift-is : lift ≡ turn a b c
+
+abbrev pub linear : ℤ → ℤ → ℤ → ℤ → ℕ → ℕ → ℕ → ℤ
+linear across up rest lift x y height = across *ℤ pos x +ℤ up *ℤ pos y +ℤ rest -ℤ lift *ℤ pos height
