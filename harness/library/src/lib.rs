@@ -57,10 +57,10 @@ impl Library for Second {
     }
 }
 
-/// The library, where its archive is linked.
+/// The library, where its archives are linked and the list printer is there.
 pub fn port() -> Option<Box<dyn Library>> {
     #[cfg(port)]
-    return Some(Box::new(port::Port));
+    return Some(Box::new(port::Port)).filter(|_| port::printer_is_there()).map(|port| port as Box<dyn Library>);
     #[cfg(not(port))]
     None
 }
@@ -68,7 +68,7 @@ pub fn port() -> Option<Box<dyn Library>> {
 /// The library, or an end with a word on how to make it.
 pub fn port_or_exit() -> Box<dyn Library> {
     port().unwrap_or_else(|| {
-        eprintln!("the library is not linked: `rt staticlib port` makes target/staticlib/libport.a");
+        eprintln!("the library is not there: `rt check`, `rt staticlib port` and `rt staticlib host` make it; then build again");
         std::process::exit(2)
     })
 }

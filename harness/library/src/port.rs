@@ -1,4 +1,4 @@
-//! The library itself, through the archive of `crates/port`. A slice passes as the address of its first element and its
+//! The library itself, through the archives of `crates/port` and `crates/host`, and the list printer. A slice passes as the address of its first element and its
 //! length. Answers come back in four lent numbers: 0 and the values, or 1, the refusal's number and its place.
 
 use crate::Library;
@@ -34,6 +34,12 @@ extern "C" {
     fn outline_polygon(
         points: *const u8, points_len: usize, triangles: *const u8, triangles_len: usize, limit: u32, out: *mut u8, out_len: usize,
     ) -> i64;
+}
+
+const PRINTER: &str = concat!(env!("CARGO_MANIFEST_DIR"), "/../../target/bin/outlines");
+
+pub fn printer_is_there() -> bool {
+    std::path::Path::new(PRINTER).exists()
 }
 
 pub struct Port;
