@@ -1,4 +1,5 @@
-//! Measures check, draw and list, the library against the second program, in one run on one core, and prints Markdown tables.
+//! Measures check, draw and list in processor time, the library against the second program, in one run on one core, and
+//! prints Markdown tables.
 //!
 //!     bench [--seed S] [--quick] [--itself]
 //!
@@ -12,7 +13,6 @@ use second::{Lent, Lists, Office, Second};
 use std::hint::black_box;
 use std::io::Write;
 use std::process::{Command, Stdio};
-use std::time::Instant;
 
 const SIZES: [usize; 4] = [16, 64, 256, 1_024];
 const KINDS: [Kind; 8] = [
@@ -72,6 +72,18 @@ impl Desk {
     }
 }
 
+extern "C" {
+    fn clock_gettime(clock: i32, time: *mut [i64; 2]) -> i32;
+}
+
+/// Seconds of processor time of this thread, so that what else runs on the machine does not count.
+fn now() -> f64 {
+    const THREAD_CPUTIME: i32 = 3;
+    let mut time = [0; 2];
+    assert_eq!(unsafe { clock_gettime(THREAD_CPUTIME, &mut time) }, 0);
+    time[0] as f64 + time[1] as f64 * 1e-9
+}
+
 fn median(mut times: Vec<f64>) -> f64 {
     times.sort_by(f64::total_cmp);
     times[times.len() / 2]
@@ -83,18 +95,18 @@ fn measure(sides: [&dyn Library; 3], call: usize, sheets: &[Sheet], plan: &Plan)
     for sheet in sheets {
         let (limit, mut desk) = (limit(sheet), Desk::of(sheet));
         // Short calls are timed many at once, so that the clock does not count.
-        let start = Instant::now();
+        let start = now();
         for side in sides {
             black_box(desk.call(side, call, sheet, limit));
         }
-        let at_once = (100e-6 / start.elapsed().as_secs_f64().max(1e-7)).ceil() as usize;
+        let at_once = (200e-6 / (now() - start).max(1e-6)).ceil() as usize;
         for _ in 0..plan.repetitions {
             for (side, times) in sides.iter().zip(&mut times) {
-                let start = Instant::now();
+                let start = now();
                 for _ in 0..at_once {
                     black_box(desk.call(*side, call, black_box(sheet), limit));
                 }
-                times.push(start.elapsed().as_secs_f64() * 1e6 / at_once as f64);
+                times.push((now() - start) * 1e6 / at_once as f64);
             }
         }
     }

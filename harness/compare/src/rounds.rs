@@ -376,7 +376,7 @@ impl Comparison<'_> {
         let ring = self.random.within(3, 8);
         self.blocks(ring, 1);
         let sheet = accepted(*self.random.clone().pick(&Kind::ALL), 7, &mut self.random);
-        self.texts(&sheet, if round % 4 == 0 { 1 } else { 7 });
+        self.texts(&sheet, if round % 16 == 0 { 1 } else { 23 });
         self.c_blocks(&sheet);
     }
 
@@ -402,6 +402,7 @@ impl Comparison<'_> {
         }
         let sheet = accepted(Kind::ThreePointHull, 1_024, &mut self.random);
         self.texts(&sheet, 20_011);
+        let sheet = accepted(Kind::Clustered, 200, &mut self.random);
         self.c_blocks(&sheet);
     }
 }
