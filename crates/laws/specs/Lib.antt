@@ -1,2 +1,3 @@
 pub mod First
 pub mod Round
+pub mod Sorted

@@ -3,7 +3,7 @@ use mathlib.Core.Path.{_≡_, refl, sym, ap, subst, _∙_}
 use mathlib.Core.Bool.{Bool, true, false, cond, _&&_, _||_}
 use mathlib.Core.Logic.{inl, inr}
 use mathlib.Core.List.{List, _++_}
-use Prim.Native.Nat.{ℕ, zero, suc, _+_, _/_, _%_, _<_, _≤_}
+use Prim.Native.Nat.{ℕ, suc, _+_, _/_, _%_, _<_, _≤_}
 use native.Mathlib.Decide.{ℕ-discrete}
 use native.Mathlib.Omega.{arith}
 use lib.Dec.{eqb}
@@ -12,28 +12,19 @@ use lib.ListN.{length, getD, set, take, drop, replicate, length-set, length-repl
 use lib.Seq.{take-at, drop-at, getD-set-same, getD-set-other, drop-set-lt}
 use borrow.Author.Tests.{eq-eqb, ne-eqb}
 use Rattle.laws.specs.First.{first, any, sum, table}
-use Rattle.laws.proofs.Test.{and-iff, or-iff, any-iff, false-iff, same-answer}
+use Rattle.laws.proofs.Test.{and-iff, or-iff, false-iff}
+use Rattle.laws.proofs.More.{any-more, sum-last, sum-below}
 use Rattle.laws.proofs.Count.{sum-same}
 use Rattle.sheet.specs.Office.{Office, triangles, tail, head, area, next, rims as hull-sides, office, bare, mate-of}
 use Rattle.sheet.proofs.Side.{next-below}
 use Rattle.sheet.specs.Acceptable.{Acceptable}
 use Rattle.peel.specs.Peel.{rim, on-rim, whole, doubled, rims}
 use Rattle.peel.specs.Reached.{Reached, begun}
-use Rattle.peel.specs.Code.{front, mark, State, Numbered, ends-marked, Marked}
+use Rattle.peel.specs.Code.{front, State, Numbered, ends-marked, Marked}
+use Rattle.peel.specs.Answer.{mark}
 use Rattle.peel.proofs.Reached.{sound}
 use Rattle.peel.proofs.Greatest.{doubled-bound}
-use Rattle.peel.proofs.Ring.{rims-are}
-
-sum-last : (f : ℕ → ℕ) (n : ℕ) → sum f (suc n) ≡ sum f n + f n
-unfolding sum
-sum-last f zero = omega arith
-sum-last f (suc n) = let h = sum-last (λ i. f (suc i)) n in omega arith
-
-sum-below : (f : ℕ → ℕ) (t n : ℕ) → t ≤ n → sum f t ≤ sum f n
-unfolding sum
-sum-below f zero n l = omega arith
-sum-below f (suc t) zero l = absurd (omega arith)
-sum-below f (suc t) (suc n) l = let h = sum-below (λ i. f (suc i)) t n (omega arith) in omega arith
+use Rattle.peel.proofs.Rings.{rims-are}
 
 whole-sum : (o : Office) → doubled o (whole o) ≡ sum (λ i. natAbs (area o i)) (triangles o)
 unfolding doubled
@@ -60,14 +51,6 @@ sum-fits {o} {t} a h = let w = sum-below (λ i. natAbs (area o i)) t (triangles 
 
 pub summed : {o : Office} {t total : ℕ} → Summed o t total → triangles o ≤ t → total ≡ doubled o (whole o)
 summed {o} {t} h l = h .is ∙ ap (sum (λ i. natAbs (area o i))) (let w = h .within in omega arith) ∙ sym (whole-sum o)
-
-any-more : (test : ℕ → Bool) (n : ℕ) → any test (n + 1) ≡ (any test n || test n)
-any-more test n = same-answer
-    (λ e. let (i, l, t) = any-iff {test = test} .0 e in or-iff {a = any test n} .1 (elim (ℕ-discrete i n) [ yes z ↦ inr (ap test (sym z) ∙ t) | no f ↦ inl (any-iff .1 (i, omega arith, t)) ]))
-    (λ e. elim (or-iff {a = any test n} .0 e) [
-      | inl h ↦ (let (i, l, t) = any-iff {test = test} .0 h in any-iff .1 (i, omega arith, t))
-      | inr h ↦ any-iff .1 (n, omega arith, h)
-    ])
 
 -- the marks of n points, after the sides below s
 pub record Marking (corners k : List ℕ) (n : ℕ) (before marks : List ℕ) (s : ℕ) : Type 0 where

@@ -14,8 +14,8 @@ use Rattle.peel.specs.Peel.{peels, drawn, ring}
 use Rattle.peel.specs.List.{Entry, entries, outline}
 use Rattle.peel.specs.Reached.{Reached}
 use Rattle.peel.proofs.Reached.{sound}
-use Rattle.peel.proofs.Ring.{peels-fit, ring-tells}
-use Rattle.peel.proofs.Drawn.{drawn-ends}
+use Rattle.peel.proofs.Rings.{peels-fit, ring-tells}
+use Rattle.peel.proofs.DrawEnds.{drawn-ends}
 use Rattle.peel.proofs.Falls.{At, at-below, below-at, falls-at, falls-two, look-at, look-found}
 use Rattle.peel.proofs.EntriesFall.{peels-are, entries-fall}
 use Rattle.peel.proofs.EveryLimit.{looked-up}

@@ -11,9 +11,10 @@ use Rattle.laws.proofs.Test.{and-iff, not-iff, false-iff}
 use Rattle.sheet.specs.Office.{Office, sides, apex, last, office, bare}
 use Rattle.sheet.proofs.Side.{last-below}
 use Rattle.peel.specs.Peel.{rim, on-rim, removable, long, before, better, best-from, best}
-use Rattle.peel.specs.Code.{front, mark, earlier, Held, told, side-of, place-of}
-use Rattle.peel.specs.declared.Best.{Best}
-use Rattle.peel.specs.declared.Best.the-variants.{Side, Nothing}
+use Rattle.peel.specs.Code.{front, earlier, Held, told, side-of, place-of}
+use Rattle.peel.specs.Answer.{mark}
+use Rattle.peel.specs.declared.answers.Best.{Best}
+use Rattle.peel.specs.declared.answers.Best.the-variants.{Side, Nothing}
 use Rattle.peel.proofs.Mated.{rim-bare}
 
 module _ (xs ys corners mate kept marks : List ℕ) (h : Held (office xs ys corners) mate kept marks) (s : ℕ) (l : s < length corners) where

@@ -18,8 +18,9 @@ use Rattle.sheet.proofs.Bound.{area-bound}
 use Rattle.sheet.proofs.Wind.{term-le}
 use Rattle.sheet.specs.Acceptable.{Acceptable}
 use Rattle.peel.specs.Peel.{whole, doubled}
-use Rattle.peel.specs.Reached.{Reached}
-use Rattle.peel.proofs.History.{hull-area}
+use Rattle.peel.specs.Reached.{Reached, begun, more}
+use Rattle.peel.proofs.Tallied.{doubled-after}
+use Rattle.peel.proofs.Reached.{sound, peelable}
 
 module _ {o : Office} (a : Acceptable o) where
   whole-total : pos (doubled o (whole o)) ≡ total (area o) (triangles o)
@@ -38,9 +39,14 @@ module _ {o : Office} (a : Acceptable o) where
   hull-bound : doubled o (whole o) ≤ 536805378
   hull-bound = not-above 536805378 (doubled o (whole o)) (non-is (ap (λ z. pos 536805378 -ℤ z) (sym whole-total)) (area-bound o (tiling a) 16383 (a .small)))
 
+  -- each peel takes its triangle's
+  pub doubled-falls : {n : ℕ} {k : List ℕ} → Reached o n k → doubled o k ≤ doubled o (whole o)
+  doubled-falls begun = omega arith
+  doubled-falls (more s r l e) = let h = doubled-falls r in let x = doubled-after a (peelable o a (sound o a r) s l e) in omega arith
+
   -- of an outline
   pub doubled-bound : {n : ℕ} {k : List ℕ} → Reached o n k → doubled o k ≤ 536805378
-  doubled-bound r = let h = hull-area a r in let b = hull-bound in omega arith
+  doubled-bound r = let h = doubled-falls r in let b = hull-bound in omega arith
 
   -- of a triangle
   pub triangle-bound : (t : ℕ) → t < triangles o → natAbs (area o t) ≤ 536805378

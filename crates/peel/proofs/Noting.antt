@@ -14,12 +14,12 @@ use Rattle.sheet.specs.Acceptable.{Acceptable}
 use Rattle.peel.specs.Peel.{long, best, peel, turned, peeled}
 use Rattle.peel.specs.List.{Entry, outline, listed, entries-from}
 use Rattle.peel.specs.Code.{front, State, Stepped, Noted, answered, peels-of}
-use Rattle.peel.specs.declared.Step.{Step}
-use Rattle.peel.specs.declared.Step.the-variants.{Peeled, Nothing as Stays}
+use Rattle.peel.specs.declared.answers.Step.{Step}
+use Rattle.peel.specs.declared.answers.Step.the-variants.{Peeled, Nothing as Stays}
 use Rattle.peel.proofs.Long.{long-positive}
 use Rattle.peel.proofs.Reached.{sound}
 use Rattle.peel.proofs.TopSide.{Top, best-top}
-use Rattle.peel.proofs.Drawing.{not-all}
+use Rattle.peel.proofs.Onward.{not-all}
 
 abbrev entry : Office → ℕ → List ℕ → Entry
 entry o m k = record { least = m; outline = outline o k }

@@ -18,11 +18,12 @@ use Rattle.laws.proofs.Runs.{onward-only}
 use Rattle.laws.proofs.Walk.{length-walk}
 use Rattle.sheet.specs.Office.{Office, sides, tail, head, rims as hull-sides, office, bare}
 use Rattle.peel.specs.Peel.{rim, on-rim, after, rims, ring}
-use Rattle.peel.specs.Code.{front, mark, State, Numbered, Leaves, Ringlike, Linked}
+use Rattle.peel.specs.Code.{front, State, Numbered, Leaves, Ringlike, Linked}
+use Rattle.peel.specs.Answer.{mark}
 use Rattle.peel.proofs.Marks.{Way, OnRim, rim-iff, on-rim-iff}
 use Rattle.peel.proofs.Mated.{rim-bare}
 use Rattle.peel.proofs.Reached.{sound}
-use Rattle.peel.proofs.Ring.{rims-are, ring-fits}
+use Rattle.peel.proofs.Rings.{rims-are, ring-fits}
 
 -- links, one more side at a time
 module _ (corners k : List ℕ) where

@@ -23,8 +23,8 @@ use Rattle.sheet.proofs.Inner.{Inner, shared}
 use Rattle.peel.specs.Peel.{rim, ring, drawn}
 use Rattle.peel.proofs.Marks.{Way, rim-iff}
 use Rattle.peel.proofs.Reached.{Sound, sound}
-use Rattle.peel.proofs.Ring.{outlined, ring-length}
-use Rattle.peel.proofs.Drawn.{drawn-ends}
+use Rattle.peel.proofs.Rings.{outlined, ring-length}
+use Rattle.peel.proofs.DrawEnds.{drawn-ends}
 
 module _ (o : Office) (row : List ℕ) where
   -- the point at step i, going round
@@ -50,7 +50,7 @@ module _ {o : Office} {n : ℕ} {k : List ℕ} (a : Acceptable o) (h : Sound o n
   abbrev r : Round (Way o k) m
   r = outlined a h .round
 
-  reads : (i : ℕ) → getD (ring o k) (i % length (ring o k)) 0 ≡ r .at i
+  pub reads : (i : ℕ) → getD (ring o k) (i % length (ring o k)) 0 ≡ r .at i
   reads i =
       ap (λ l. getD (ring o k) (i % l) 0) (ring-length a h)
       ∙ ap (λ l. getD l (i % m) 0) (outlined a h .reads)
@@ -61,13 +61,13 @@ module _ {o : Office} {n : ℕ} {k : List ℕ} (a : Acceptable o) (h : Sound o n
   number i = getD (ring o k) (i % length (ring o k)) 0
 
   -- the side at step i
-  side : (i : ℕ) → Way o k (number i) (number (i + 1))
+  pub side : (i : ℕ) → Way o k (number i) (number (i + 1))
   side i = subst₂ (Way o k) (sym (reads i)) (sym (reads (i + 1))) (r .goes i)
 
   number-in : (i : ℕ) → number i < points o
   number-in i = let (s, l, _, e, _) = side i in subst (λ p. p < points o) e (a .numbered s l)
 
-  once : (i j : ℕ) → i < length (ring o k) → j < length (ring o k) → number i ≡ number j → i ≡ j
+  pub once : (i j : ℕ) → i < length (ring o k) → j < length (ring o k) → number i ≡ number j → i ≡ j
   once i j l b e = apart-early r i j (rw (ring-length a h) at l) (rw (ring-length a h) at b) (sym (reads i) ∙ e ∙ reads j)
 
   -- sides with an inner point in common

@@ -22,10 +22,10 @@ pub before-iff : (o : Office) (s r : ℕ) → (before o s r ≡ true) ↔ Before
 unfolding before
 before-iff o s r = lex-iff (lex-iff ltb-iff)
 
-before-trans : (o : Office) (s r q : ℕ) → Before o s r → Before o r q → Before o s q
+pub before-trans : (o : Office) (s r q : ℕ) → Before o s r → Before o r q → Before o s q
 before-trans o s r q x y = lex-trans (λ v u. lex-trans (λ a b. omega arith) u v) y x
 
-before-never : (o : Office) (s : ℕ) → Before o s s → ⊥
+pub before-never : (o : Office) (s : ℕ) → Before o s s → ⊥
 before-never o s = lex-never (lex-never (λ l. omega arith))
 
 module _ {o : Office} (a : Acceptable o) (k : List ℕ) where
@@ -37,7 +37,7 @@ module _ {o : Office} (a : Acceptable o) (k : List ℕ) where
   ]
 
   -- of two others, one goes first
-  before-total : (s r : ℕ) → s < sides o → r < sides o → Rim o k s → Rim o k r → (s ≡ r → ⊥) → Before o s r ⊎ Before o r s
+  pub before-total : (s r : ℕ) → s < sides o → r < sides o → Rim o k s → Rim o k r → (s ≡ r → ⊥) → Before o s r ⊎ Before o r s
   before-total s r l m x y f = step (lex-total (lex-total last))
     where
       last : (high o s < high o r) ⊎ ((high o r < high o s) ⊎ (high o s ≡ high o r))

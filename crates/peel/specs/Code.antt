@@ -1,36 +1,31 @@
 -- What the code's values stand for. Assumes nothing.
 use Prim.Native.Nat.{ℕ, _+_, _-_, _/_, _<_, _≤_}
-use mathlib.Core.Bool.{Bool, true, cond, _&&_, _||_}
-use mathlib.Core.List.{List, [], _++_, map}
+use mathlib.Core.Bool.{Bool, true, cond}
+use mathlib.Core.List.{List, _++_, map}
 use mathlib.Core.Option.{Option, none, some}
 use mathlib.Core.Path.{_≡_}
-use lib.Dec.{leb, ltb, eqb}
+use lib.Dec.{ltb}
 use lib.ListN.{length, getD, set, take, drop}
 use lib.Seq.{sets}
 use Rattle.laws.specs.First.{table}
-use Rattle.sheet.specs.Office.{Office, office, bare, mate-of, points, sides, triangles, tail, head}
+use Rattle.sheet.specs.Office.{Office, bare, mate-of, points, sides, triangles, tail, head}
 use Rattle.sheet.specs.Acceptable.{Acceptable}
-use Rattle.peel.specs.Peel.{rim, on-rim, low, high, long, best, turned, peels, rims, ring, peeled, doubled}
+use Rattle.peel.specs.Peel.{rim, on-rim, precedes, low, high, long, best, turned, peels, rims, ring, peeled, doubled}
 use Rattle.peel.specs.List.{Entry, entries-from}
 use Rattle.peel.specs.Reached.{Reached}
-use Rattle.peel.specs.declared.Best.{Best}
-use Rattle.peel.specs.declared.Best.the-variants.{Side, Nothing}
-use Rattle.peel.specs.declared.Step.{Step}
-use Rattle.peel.specs.declared.Step.the-variants.{Peeled, Nothing as Stays}
+use Rattle.peel.specs.Answer.{mark}
+use Rattle.peel.specs.declared.answers.Best.{Best}
+use Rattle.peel.specs.declared.answers.Best.the-variants.{Side, Nothing}
+use Rattle.peel.specs.declared.answers.Step.{Step}
+use Rattle.peel.specs.declared.answers.Step.the-variants.{Peeled, Nothing as Stays}
 
 -- the definitions' marks: those in front, one a triangle
 abbrev pub front : List ℕ → List ℕ → List ℕ
 front corners kept = take (length corners / 3) kept
 
--- a mark
-abbrev pub mark : Bool → ℕ
-mark b = cond b 1 0
-
 -- side s, of length long, goes before side r, of length other
 abbrev pub earlier : List ℕ → ℕ → ℕ → ℕ → ℕ → Bool
-earlier corners s long r other =
-    ltb other long
-    || (eqb other long && (ltb (low (bare corners) s) (low (bare corners) r) || (eqb (low (bare corners) s) (low (bare corners) r) && ltb (high (bare corners) s) (high (bare corners) r))))
+earlier corners s long r other = precedes long (low (bare corners) s) (high (bare corners) s) other (low (bare corners) r) (high (bare corners) r)
 
 -- an acceptable office, its mates, and the marks of its triangles and of the points on the rim
 pub record Held (o : Office) (mate kept rim : List ℕ) : Type 0 where
@@ -127,10 +122,6 @@ pub record Outlined (o : Office) (k kept rim round kept′ rim′ round′ : Lis
   pub area-is : area ≡ doubled o k
   pub sides-are : sides ≡ rims o k
 
--- the used part of a ring buffer: none where the tally claims too much
-abbrev pub used : List ℕ → ℕ → List ℕ
-used round sides = cond (leb sides (length round)) (take sides round) []
-
 -- the entries from a state on, after `begun` peels
 abbrev pub entries-on : Office → List ℕ → ℕ → List Entry
 entries-on o kept begun = entries-from o (triangles o - begun) 4294967296 (front (o .corners) kept)
@@ -145,6 +136,6 @@ pub record Noted (es : List Entry) (least peeled area least′ peeled′ area′
 -- the same: the entries stand in front, and later places are untouched
 pub record Written (es : List Entry) (least peeled area least′ peeled′ area′ : List ℕ) (count : ℕ) : Type 0 where
   pub counts : count ≡ length es
-  pub leasts : least′ ≡ map (λ e. e .least) es ++ drop count least
-  pub peels : peeled′ ≡ map (λ e. e .outline .peels) es ++ drop count peeled
-  pub areas : area′ ≡ map (λ e. e .outline .area) es ++ drop count area
+  pub leasts : least′ ≡ map (λ e. e .least) es ++ drop (length es) least
+  pub peels : peeled′ ≡ map (λ e. e .outline .peels) es ++ drop (length es) peeled
+  pub areas : area′ ≡ map (λ e. e .outline .area) es ++ drop (length es) area

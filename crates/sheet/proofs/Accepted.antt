@@ -33,9 +33,9 @@ whenever-iff m k true other = ((λ e. absurd (refused-not k 0 m e)), (λ h. absu
 whenever-iff m k false other = ((λ e. (refl, e)), (λ h. h .1))
 
 -- the check accepts exactly the acceptable offices, and answers the rim's length
-pub accepts : (o : Office) (m : ℕ) → (verdict true o ≡ accepted m) ↔ (Acceptable o × (m ≡ rims o))
+pub accepted-exactly : (o : Office) (m : ℕ) → (verdict true o ≡ accepted m) ↔ (Acceptable o × (m ≡ rims o))
 unfolding verdict
-accepts o m = (
+accepted-exactly o m = (
   (λ e.
       let (paired, (few, (third, (_, (small, (distinct, (numbered, (left, (new, (used, (empty, (ring, (hull, length))))))))))))) = simp (whenever-iff, first-iff, plain) at e in
       let single : Single o = single-of o (third .0 .1) left new in (
@@ -71,3 +71,12 @@ accepts o m = (
       & (λ p b (s, l, (r, h)). a .hull s p l (λ x y z. r (x, y, z)) b h)
       & ap accepted (sym e))),
 )
+
+no-room : (o : Office) (m : ℕ) → verdict false o ≡ accepted m → ⊥
+unfolding verdict
+no-room o m e = let (paired, (few, (third, (r, others)))) = simp whenever-iff at e in true≢false r
+
+-- and so does a check that lends buffers, where these are long enough
+pub accepted-lent : (room : Bool) (o : Office) (m : ℕ) → (verdict room o ≡ accepted m) ↔ ((room ≡ true) × Acceptable o × (m ≡ rims o))
+accepted-lent true o m = let (f, g) = accepted-exactly o m in ((λ e. let (a, h) = f e in (refl, a, h)), (λ (r, a, h). g (a, h)))
+accepted-lent false o m = ((λ e. absurd (no-room o m e)), (λ (r, a, h). absurd (true≢false (sym r))))

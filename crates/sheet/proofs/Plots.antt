@@ -1,4 +1,4 @@
--- What the refusals 1 to 7 leave. Assumes nothing.
+-- What the refusals 1 to 9 leave. Assumes nothing.
 use mathlib.Core.Path.{_≡_}
 use mathlib.Core.List.{List}
 use Prim.Native.Nat.{ℕ, _%_, _<_, _≤_}
@@ -7,8 +7,11 @@ use lib.ListN.{length}
 use Rattle.laws.specs.First.{first}
 use Rattle.laws.proofs.Search.{found-none}
 use Rattle.laws.proofs.Test.{plain}
-use Rattle.sheet.specs.Office.{office, large, no-point}
-use Rattle.sheet.specs.Code.{cloud, Plotted}
+use Rattle.sheet.specs.Office.{Office, office, sides, triangles, large, no-point, flat, double}
+use Rattle.sheet.specs.Acceptable.{Left, Single}
+use Rattle.sheet.specs.Code.{cloud, Plotted, Numbered, Cornered}
+use Rattle.sheet.proofs.Corner.{tail-not-head}
+use Rattle.sheet.proofs.Single.{single-of}
 
 pub plots : (xs ys corners : List ℕ) (a n : ℕ) → length xs ≡ length ys → 3 ≤ length xs → length xs ≤ 1024 → length corners % 3 ≡ 0 → length corners ≤ 6129
     → a ≡ first (large (cloud xs ys)) (length xs) → length xs ≤ a → n ≡ first (no-point (office xs xs corners)) (length corners) → length corners ≤ n
@@ -22,3 +25,18 @@ plots xs ys corners a n paired some few whole short e l f m = record {
   small = λ p b. let h = simp plain at (found-none (large (cloud xs ys)) (length xs) a e l p b) in (omega arith, omega arith);
   numbered = λ s b. let h = simp plain at (found-none (no-point (office xs xs corners)) (length corners) n f m s b) in omega arith;
 }
+
+module _ (o : Office) where
+  -- every point number fits the tables by points
+  pub low-numbers : Plotted o → Numbered (o .corners) 1024
+  low-numbers p s l = omega (arith, p .numbered s l, p .few)
+
+  -- what refusals 8 and 9 leave
+  pub left-of : (r : ℕ) → r ≡ first (flat o) (triangles o) → triangles o ≤ r → Left o
+  left-of r e l t b = simp plain at (found-none (flat o) (triangles o) r e l t b)
+
+  pub cornered-of : sides o % 3 ≡ 0 → Left o → Cornered (o .corners)
+  cornered-of whole left = tail-not-head o whole left
+
+  pub single-from : sides o % 3 ≡ 0 → Left o → (r : ℕ) → r ≡ first (double o) (triangles o) → triangles o ≤ r → Single o
+  single-from whole left r e l = single-of o whole left (λ t b. simp plain at (found-none (double o) (triangles o) r e l t b))

@@ -1,4 +1,4 @@
--- An acceptable office is a tiling, and one whose pairs of triangles pass needs no other test of circles. Assumes nothing.
+-- An acceptable office is a tiling. Assumes nothing.
 use mathlib.Core.Path.{_≡_, refl, sym, _∙_}
 use Prim.Native.Nat.{ℕ, _+_, _<_}
 use Rattle.laws.proofs.Round.{same-way}
@@ -6,8 +6,6 @@ use Rattle.laws.specs.Round.{Round}
 use Rattle.sheet.specs.Office.{Office, sides, tail, head}
 use Rattle.sheet.specs.Acceptable.{Rim, Along, Single, Acceptable}
 use Rattle.sheet.proofs.Tiling.{Tiling}
-use Rattle.sheet.proofs.Cavity.{Local}
-use Rattle.sheet.proofs.Global.{Global, delaunay, locally}
 
 -- from a point of a round there is one way on
 pub parted-of : (o : Office) → Single o → {m : ℕ} → Round (Along o) m → (s r : ℕ) → s < sides o → r < sides o → Rim o s → Rim o r → tail o s ≡ tail o r → s ≡ r
@@ -27,10 +25,3 @@ tiling {o} a = record {
   parted = parted-of o (a .single) (a .ring .1);
   hull = a .hull;
 }
-
--- the field `empty`, from the pairs
-pub empty-of : (o : Office) → Tiling o → Local o → Global o
-empty-of = delaunay
-
-pub acceptable-local : {o : Office} → Acceptable o → Local o
-acceptable-local {o} a = locally o (tiling a) (a .empty)

@@ -1,12 +1,14 @@
 -- What the code's values stand for. Assumes nothing.
 use mathlib.Core.Path.{_≡_}
+use mathlib.Core.Bool.{Bool, cond, _&&_}
 use mathlib.Core.List.{List, []}
-use Prim.Native.Nat.{ℕ, _+_, _*_, _%_, _<_, _≤_}
+use Prim.Native.Nat.{ℕ, suc, _+_, _*_, _%_, _<_, _≤_}
+use lib.Dec.{ltb, eqb}
 use lib.IntN.{ℤ, pos, _+ℤ_, _-ℤ_, _*ℤ_}
 use lib.ListN.{length, getD, take}
-use Rattle.laws.specs.First.{table}
+use Rattle.laws.specs.First.{final, table}
 use Rattle.sheet.specs.Plane.{Point, Small, spot, dx, dy, turn}
-use Rattle.sheet.specs.Office.{Office, office, points, sides, point, tail, mate-of}
+use Rattle.sheet.specs.Office.{Office, office, bare, points, sides, point, tail, head, mate-of}
 
 -- the points alone
 abbrev pub cloud : List ℕ → List ℕ → Office
@@ -31,6 +33,27 @@ pub record At (o : Office) (p x y : ℕ) : Type 0 where
   pub across : x ≡ getD (o .xs) p 0
   pub up : y ≡ getD (o .ys) p 0
   pub small : Small (spot x y)
+
+-- side r starts at point p; side r ends at point q
+abbrev pub starts : List ℕ → ℕ → ℕ → Bool
+starts corners p r = eqb (tail (bare corners) r) p
+
+abbrev pub ends : List ℕ → ℕ → ℕ → Bool
+ends corners q r = eqb (head (bare corners) r) q
+
+-- for each side the latest earlier one from the same point, and for each point the latest side from it; 65,535 for none
+pub record Chained (corners : List ℕ) (earlier latest : List ℕ) : Type 0 where
+  pub earlier-is : (s : ℕ) → s < length corners → getD earlier s 0 ≡ final 65535 (starts corners (getD corners s 0)) s
+  pub latest-is : (p : ℕ) → p < 1024 → getD latest p 0 ≡ final 65535 (starts corners p) (length corners)
+
+-- of the sides from the point where side r starts, up to r, the latest that ends at q
+abbrev pub back-along : List ℕ → ℕ → ℕ → ℕ
+back-along corners q r =
+    cond (ltb r 65535) (final 65535 (λ i. starts corners (getD corners r 0) i && ends corners q i) (suc r)) 65535
+
+-- no triangle has a corner twice
+abbrev pub Cornered : List ℕ → Type 0
+Cornered corners = (s : ℕ) → s < length corners → tail (bare corners) s ≡ head (bare corners) s → ⊥
 
 -- the table of mates in front of a longer list
 abbrev pub Mated : List ℕ → List ℕ → Type 0

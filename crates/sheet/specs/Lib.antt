@@ -2,5 +2,6 @@ pub mod Plane
 pub mod Office
 pub mod Verdict
 pub mod Acceptable
+pub mod Rules
 pub mod Code
 pub mod Answer

@@ -14,6 +14,7 @@ use points::first_large;
 use ring::first_outer;
 use ring::is_one_ring;
 use ring::rim_length;
+use sides::chain_sides;
 use sides::mates;
 use triangles::first_double;
 use triangles::first_flat;
@@ -25,7 +26,8 @@ ghost use lib.ListN.{length};
 ghost use Prim.Native.Nat.{_%_, _<_, _≤_};
 ghost use Rattle.sheet.specs.Office.{office};
 ghost use Rattle.sheet.specs.Verdict as Verdict;
-ghost use Rattle.sheet.specs.Verdict.{verdict, points-verdict, triangles-verdict, rim-verdict};
+ghost use Rattle.sheet.specs.Verdict.{verdict, points-verdict, areas-verdict, sides-verdict, rim-verdict};
+ghost use Rattle.sheet.specs.Acceptable.{Left, Single};
 ghost use Rattle.sheet.specs.Code.{Plotted};
 ghost use Rattle.sheet.specs.Answer.{answer};
 
@@ -93,23 +95,34 @@ fn check_points(xs: &[u16], ys: &[u16], corners: &[u16]) -> Checked
     if no_point < corners.len() {
         return refused(7, no_point);
     }
-    check_triangles(xs, ys, corners)
+    check_areas(xs, ys, corners)
 }
 
-// Refusals 8 to 10, and those after them.
-fn check_triangles(xs: &[u16], ys: &[u16], corners: &[u16]) -> Checked
+// Refusal 8, and those after it.
+fn check_areas(xs: &[u16], ys: &[u16], corners: &[u16]) -> Checked
     requires { ⌜ Plotted (office (now xs) (now ys) (now corners)) ⌝ }
-    ensures { λ r. ⌜ answer r ≡ triangles-verdict (office (now (xs .entry)) (now (ys .entry)) (now (corners .entry))) ⌝ }
+    ensures { λ r. ⌜ answer r ≡ areas-verdict (office (now (xs .entry)) (now (ys .entry)) (now (corners .entry))) ⌝ }
 {
     let flat = first_flat(xs, ys, corners);
     if flat < corners.len() / 3 {
         return refused(8, flat);
     }
-    let double = first_double(corners);
+    check_sides(xs, ys, corners)
+}
+
+// Refusals 9 and 10, and those after them.
+fn check_sides(xs: &[u16], ys: &[u16], corners: &[u16]) -> Checked
+    requires { ⌜ Plotted (office (now xs) (now ys) (now corners)) × Left (office (now xs) (now ys) (now corners)) ⌝ }
+    ensures { λ r. ⌜ answer r ≡ sides-verdict (office (now (xs .entry)) (now (ys .entry)) (now (corners .entry))) ⌝ }
+{
+    let chain = chain_sides(corners);
+    let earlier = chain.earlier;
+    let latest = chain.latest;
+    let double = first_double(corners, &earlier);
     if double < corners.len() / 3 {
         return refused(9, double);
     }
-    let unused = first_unused(corners, xs.len());
+    let unused = first_unused(corners, &latest, xs.len());
     if unused < xs.len() {
         return refused(10, unused);
     }
@@ -118,7 +131,7 @@ fn check_triangles(xs: &[u16], ys: &[u16], corners: &[u16]) -> Checked
 
 // Refusals 11 to 13, and acceptance.
 fn check_rim(xs: &[u16], ys: &[u16], corners: &[u16]) -> Checked
-    requires { ⌜ Plotted (office (now xs) (now ys) (now corners)) ⌝ }
+    requires { ⌜ Plotted (office (now xs) (now ys) (now corners)) × Single (office (now xs) (now ys) (now corners)) ⌝ }
     ensures { λ r. ⌜ answer r ≡ rim-verdict (office (now (xs .entry)) (now (ys .entry)) (now (corners .entry))) ⌝ }
 {
     let invaded = first_invaded(xs, ys, corners);

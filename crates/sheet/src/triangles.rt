@@ -1,13 +1,15 @@
 // Refusals 7 to 10: each search finds the lowest place at which the rule breaks, or the number of places. No public call.
 use super::plane::turn;
+use super::plane::wide;
+use super::sides::run_back;
 use super::spots::corner_at;
 ghost use mathlib.Core.Path.{_≡_};
-ghost use Prim.Native.Nat.{_%_, _/_, _<_, _≤_};
-ghost use lib.Dec.{leb, eqb};
-ghost use lib.ListN.{length};
-ghost use Rattle.laws.specs.First.{first, any};
-ghost use Rattle.sheet.specs.Office.{office, bare, no-point, flat, same-side, double, unused, tail};
-ghost use Rattle.sheet.specs.Code.{Plotted};
+ghost use Prim.Native.Nat.{ℕ, _%_, _/_, _<_, _≤_};
+ghost use lib.Dec.{leb};
+ghost use lib.ListN.{length, getD};
+ghost use Rattle.laws.specs.First.{first, final, any};
+ghost use Rattle.sheet.specs.Office.{office, bare, no-point, flat, same-side, double, unused};
+ghost use Rattle.sheet.specs.Code.{Plotted, starts, Cornered};
 
 fn is_no_point(points: usize, corner: u16) -> bool
     ensures { λ r. ⌜ r ≡ leb points corner ⌝ }
@@ -56,46 +58,38 @@ pub fn first_flat(xs: &[u16], ys: &[u16], corners: &[u16]) -> usize
     t
 }
 
-fn is_same_side(corners: &[u16], s: usize, r: usize) -> bool
-    requires { ⌜ (s < length (now corners)) × (r < length (now corners)) × (length (now corners) % 3 ≡ 0) ⌝ }
-    ensures { λ b. ⌜ b ≡ same-side (bare (now (corners .entry))) s r ⌝ }
+// Whether an earlier side runs as side s does.
+fn is_repeated(corners: &[u16], earlier: &[u16; 6129], s: usize) -> bool
+    requires { ⌜ (length (now corners) % 3 ≡ 0) × (length (now corners) ≤ 6129) × (s < length (now corners)) ⌝ }
+    requires { ⌜ ((r : ℕ) → r < length (now corners) → getD (now earlier) r 0 ≡ final 65535 (starts (now corners) (getD (now corners) r 0)) r) ⌝ }
+    ensures { λ b. ⌜ b ≡ any (same-side (bare (now (corners .entry))) s) s ⌝ }
 {
-    let after_s = s / 3 * 3 + (s + 1) % 3;
-    let after_r = r / 3 * 3 + (r + 1) % 3;
-    (corners[r] == corners[s]) & (corners[after_r] == corners[after_s])
+    let e = s / 3 * 3 + (s + 1) % 3;
+    let begun = wide(earlier[s]);
+    run_back(corners, earlier, begun, corners[e]) < 65535
 }
 
-// Whether a side below n runs as side s does.
-fn stands_below(corners: &[u16], s: usize, n: usize) -> bool
-    requires { ⌜ (s < length (now corners)) × (n ≤ length (now corners)) × (length (now corners) % 3 ≡ 0) ⌝ }
-    ensures { λ b. ⌜ b ≡ any (same-side (bare (now (corners .entry))) s) n ⌝ }
-{
-    let mut r = 0;
-    while r < n {
-        if is_same_side(corners, s, r) {
-            return true;
-        }
-        r += 1;
-    }
-    false
-}
-
-fn is_double(corners: &[u16], t: usize) -> bool
-    requires { ⌜ (t < length (now corners) / 3) × (length (now corners) % 3 ≡ 0) ⌝ }
+// Whether a side of triangle t also stands in an earlier triangle.
+fn is_double(corners: &[u16], earlier: &[u16; 6129], t: usize) -> bool
+    requires { ⌜ (length (now corners) % 3 ≡ 0) × (length (now corners) ≤ 6129) × (t < length (now corners) / 3) × Cornered (now corners) ⌝ }
+    requires { ⌜ ((r : ℕ) → r < length (now corners) → getD (now earlier) r 0 ≡ final 65535 (starts (now corners) (getD (now corners) r 0)) r) ⌝ }
     ensures { λ r. ⌜ r ≡ double (bare (now (corners .entry))) t ⌝ }
 {
     let s = t * 3;
-    stands_below(corners, s, s) | stands_below(corners, s + 1, s) | stands_below(corners, s + 2, s)
+    is_repeated(corners, earlier, s)
+        | is_repeated(corners, earlier, s + 1)
+        | is_repeated(corners, earlier, s + 2)
 }
 
-pub fn first_double(corners: &[u16]) -> usize
-    requires { ⌜ length (now corners) % 3 ≡ 0 ⌝ }
+pub fn first_double(corners: &[u16], earlier: &[u16; 6129]) -> usize
+    requires { ⌜ (length (now corners) % 3 ≡ 0) × (length (now corners) ≤ 6129) × Cornered (now corners) ⌝ }
+    requires { ⌜ ((r : ℕ) → r < length (now corners) → getD (now earlier) r 0 ≡ final 65535 (starts (now corners) (getD (now corners) r 0)) r) ⌝ }
     ensures { λ r. ⌜ r ≡ first (double (bare (now (corners .entry)))) (length (now (corners .entry)) / 3) ⌝ }
 {
     let n = corners.len() / 3;
     let mut t = 0;
     while t < n {
-        if is_double(corners, t) {
+        if is_double(corners, earlier, t) {
             return t;
         }
         t += 1;
@@ -103,37 +97,23 @@ pub fn first_double(corners: &[u16]) -> usize
     t
 }
 
-fn is_corner(corner: u16, p: usize) -> bool
-    ensures { λ r. ⌜ r ≡ eqb corner p ⌝ }
-{
-    corner as usize == p
-}
-
-fn is_used(corners: &[u16], p: usize) -> bool
-    ensures { λ r. ⌜ r ≡ any (λ s. eqb (tail (bare (now (corners .entry))) s) p) (length (now (corners .entry))) ⌝ }
-{
-    let mut s = 0;
-    while s < corners.len() {
-        if is_corner(corners[s], p) {
-            return true;
-        }
-        s += 1;
-    }
-    false
-}
-
-fn is_unused(corners: &[u16], p: usize) -> bool
+// Whether no side starts at point p.
+fn is_unused(corners: &[u16], latest: &[u16; 1024], p: usize) -> bool
+    requires { ⌜ (length (now corners) ≤ 6129) × (p < 1024) ⌝ }
+    requires { ⌜ ((q : ℕ) → q < 1024 → getD (now latest) q 0 ≡ final 65535 (starts (now corners) q) (length (now corners))) ⌝ }
     ensures { λ r. ⌜ r ≡ unused (bare (now (corners .entry))) p ⌝ }
 {
-    !is_used(corners, p)
+    !(latest[p] < 65535)
 }
 
-pub fn first_unused(corners: &[u16], points: usize) -> usize
+pub fn first_unused(corners: &[u16], latest: &[u16; 1024], points: usize) -> usize
+    requires { ⌜ (length (now corners) ≤ 6129) × (points ≤ 1024) ⌝ }
+    requires { ⌜ ((q : ℕ) → q < 1024 → getD (now latest) q 0 ≡ final 65535 (starts (now corners) q) (length (now corners))) ⌝ }
     ensures { λ r. ⌜ r ≡ first (unused (bare (now (corners .entry)))) points ⌝ }
 {
     let mut p = 0;
     while p < points {
-        if is_unused(corners, p) {
+        if is_unused(corners, latest, p) {
             return p;
         }
         p += 1;

@@ -18,18 +18,37 @@ sizes n m e f =
     let k = simp plain at f in
     (omega arith, omega arith, k .0 .1, omega arith)
 
-pub check-lent-spec : {M : Type 1} → statement M
+returns : tie.Need-returns
 unfolding verdict
+returns c = when-broken _ (ap not (ne-eqb _ _ (c .before .if1 .taken))) (c .refused .ensures)
+
+returns-2 : tie.Need-returns-2
+unfolding verdict
+returns-2 c = when-sound _ (ap not (eq-eqb _ _ (c .before .before .if1 .left))) (when-broken _ (c .before .if2 .taken) (c .refused2 .ensures))
+
+returns-3 : tie.Need-returns-3
+unfolding verdict
+returns-3 c = when-sound _ (ap not (eq-eqb _ _ (c .before .before .before .if1 .left))) (when-sound _ (c .before .before .if2 .left) (when-broken _ (c .before .if3 .taken) (c .refused3 .ensures)))
+
+returns-4 : tie.Need-returns-4
+unfolding verdict
+returns-4 c = when-sound _ (ap not (eq-eqb _ _ (c .before .before .before .before .if1 .left))) (when-sound _ (c .before .before .before .if2 .left) (when-sound _ (c .before .before .if3 .left) (when-broken _ (c .before .if4 .taken) (c .refused4 .ensures))))
+
+returns-5 : tie.Need-returns-5
+unfolding verdict
+returns-5 c = when-sound _ (ap not (eq-eqb _ _ (c .before .before .before .before .if1 .left))) (when-sound _ (c .before .before .before .if2 .left) (when-sound _ (c .before .before .if3 .left) (when-sound _ (c .before .if4 .left) (c .check-points .ensures))))
+
+pub check-lent-spec : {M : Type 1} → statement M
 check-lent-spec =
     tie.close
     (tie.spec
     (λ c κs. search needs)
-    (λ c. when-broken _ (ap not (ne-eqb _ _ (c .before .if1 .taken))) (c .refused .ensures))
+    returns
     (λ c κs. search needs)
-    (λ c. when-sound _ (ap not (eq-eqb _ _ (c .before .before .if1 .left))) (when-broken _ (c .before .if2 .taken) (c .refused2 .ensures)))
+    returns-2
     (λ c κs. search needs)
-    (λ c. when-sound _ (ap not (eq-eqb _ _ (c .before .before .before .if1 .left))) (when-sound _ (c .before .before .if2 .left) (when-broken _ (c .before .if3 .taken) (c .refused3 .ensures))))
+    returns-3
     (λ c κs. search needs)
-    (λ c. when-sound _ (ap not (eq-eqb _ _ (c .before .before .before .before .if1 .left))) (when-sound _ (c .before .before .before .if2 .left) (when-sound _ (c .before .before .if3 .left) (when-broken _ (c .before .if4 .taken) (c .refused4 .ensures)))))
+    returns-4
     (λ c κs. let (a, b, d, e) = sizes _ _ (c .before .before .if2 .left) (c .before .if3 .left) in (c .before .before .before .if1 .left, a, b, d, e))
-    (λ c. when-sound _ (ap not (eq-eqb _ _ (c .before .before .before .before .if1 .left))) (when-sound _ (c .before .before .before .if2 .left) (when-sound _ (c .before .before .if3 .left) (when-sound _ (c .before .if4 .left) (c .check-points .ensures))))))
+    returns-5)

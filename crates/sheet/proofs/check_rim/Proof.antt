@@ -4,14 +4,19 @@ use mathlib.Core.Bool.{not}
 use native.Mathlib.Omega.{arith}
 use borrow.Author.Needs.{needs}
 use Rattle.laws.proofs.Search.{at-hit, at-none, when-broken, when-sound}
+use Rattle.sheet.specs.Office.{office}
 use Rattle.sheet.specs.Verdict.{accepted}
+use Rattle.sheet.proofs.Plots.{low-numbers}
 use Rattle.sheet.proofs.check_rim.Statement.{statement}
 use Rattle.sheet.proofs.check_rim.Tie as tie
 
 ring-requires : tie.Need-is-one-ring-requires
 ring-requires c κs =
-    let p = c .before .before .before .before .before .before .before .before .before .pre in
+    let p = c .before .before .before .before .before .before .before .before .before .pre .0 in
     ((c .before .before .before .mates .ensures, p .short, p .whole, λ s l. omega (arith, p .numbered s l, p .few)), c .before .rim-length .ensures)
+
+accepts : tie.Need-returns-4
+accepts c = at-none _ _ _ _ _ _ (c .before .before .before .before .before .before .before .before .before .before .first-invaded .ensures) (c .before .before .before .before .before .before .before .before .before .if1 .left) (when-sound _ (ap not (sym (c .before .before .before .before .is-one-ring .ensures)) ∙ c .before .before .before .if2 .left) (at-none _ _ _ _ _ _ (c .before .first-outer .ensures) (c .if3 .left) (ap accepted (c .before .before .before .before .before .before .rim-length .ensures))))
 
 pub check-rim-spec : {M : Type 1} → statement M
 check-rim-spec =
@@ -20,7 +25,7 @@ check-rim-spec =
     (λ c κs. search needs)
     (λ c κs. search needs)
     (λ c. at-hit _ _ _ _ _ _ (c .before .before .first-invaded .ensures) (c .before .if1 .taken) (c .refused .ensures))
-    (λ c κs. search needs)
+    (λ c κs. let s = c .before .before .before .before .before in (s .pre .0 .whole, s .pre .0 .short, low-numbers (office (s .args .xs .now) (s .args .ys .now) (s .args .corners .now)) (s .pre .0), s .pre .1))
     (λ c κs. search needs)
     ring-requires
     (λ c κs. search needs)
@@ -28,4 +33,4 @@ check-rim-spec =
     (λ c κs. search needs)
     (λ c κs. search needs)
     (λ c. at-none _ _ _ _ _ _ (c .before .before .before .before .before .before .before .before .before .before .before .first-invaded .ensures) (c .before .before .before .before .before .before .before .before .before .before .if1 .left) (when-sound _ (ap not (sym (c .before .before .before .before .before .is-one-ring .ensures)) ∙ c .before .before .before .before .if2 .left) (at-hit _ _ _ _ _ _ (c .before .before .first-outer .ensures) (c .before .if3 .taken) (c .refused3 .ensures))))
-    (λ c. at-none _ _ _ _ _ _ (c .before .before .before .before .before .before .before .before .before .before .first-invaded .ensures) (c .before .before .before .before .before .before .before .before .before .if1 .left) (when-sound _ (ap not (sym (c .before .before .before .before .is-one-ring .ensures)) ∙ c .before .before .before .if2 .left) (at-none _ _ _ _ _ _ (c .before .first-outer .ensures) (c .if3 .left) (ap accepted (c .before .before .before .before .before .before .rim-length .ensures))))))
+    accepts)

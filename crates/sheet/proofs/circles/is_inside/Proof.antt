@@ -19,6 +19,9 @@ module _ (c : tie.Start) where
       (held 864480041549168652 (c .args .k .rest) (c .pre .0 .2) tt) tt)
       (times (held 536805378 (c .args .k .lift) (c .pre .0 .3) tt) (nat 536805378 (c .args .height) (c .pre .1 .1) tt) tt) tt
 
+returns : tie.Need-returns
+returns c = ap (ltZ (pos 0)) (all (c .before .before .before .before .before .before .before .before) .reads)
+
 pub is-inside-spec : {M : Type 1} → statement M
 is-inside-spec =
     tie.close
@@ -32,4 +35,4 @@ is-inside-spec =
     (λ c. search needs)
     (λ c. search (all (c .before .before .before .before .before .before .before .before) .seen))
     (λ c. search (all (c .before .before .before .before .before .before .before .before) .seen))
-    (λ c. ap (ltZ (pos 0)) (all (c .before .before .before .before .before .before .before .before) .reads)))
+    returns)

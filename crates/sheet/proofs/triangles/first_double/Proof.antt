@@ -7,10 +7,10 @@ use Rattle.sheet.proofs.triangles.first_double.Statement.{statement}
 use Rattle.sheet.proofs.triangles.first_double.Tie as tie
 
 abbrev Inv-loop : tie.InvT-loop
-Inv-loop corners n t₀ t = Sought (double (bare corners)) (length corners / 3) t
+Inv-loop corners earlier n t₀ t = Sought (double (bare corners)) (length corners / 3) t
 
 abbrev μ-loop : tie.MeasureT-loop
-μ-loop corners n t₀ t = length corners / 3 - t
+μ-loop corners earlier n t₀ t = length corners / 3 - t
 
 pub first-double-spec : {M : Type 1} → statement M
 first-double-spec =

@@ -6,10 +6,10 @@ use Rattle.sheet.proofs.triangles.first_unused.Statement.{statement}
 use Rattle.sheet.proofs.triangles.first_unused.Tie as tie
 
 abbrev Inv-loop : tie.InvT-loop
-Inv-loop corners points p₀ p = Sought (unused (bare corners)) points p
+Inv-loop corners latest points p₀ p = Sought (unused (bare corners)) points p
 
 abbrev μ-loop : tie.MeasureT-loop
-μ-loop corners points p₀ p = points - p
+μ-loop corners latest points p₀ p = points - p
 
 pub first-unused-spec : {M : Type 1} → statement M
 first-unused-spec =

@@ -1,0 +1,109 @@
+// What the reader answers for blocks from outside: a line each, with the ring, or with the refusal's number and place and, where a coordinate
+// is refused, what it is. A value off the grid is shown by its pattern.
+mod stored;
+
+use exchange::Coordinate;
+use exchange::Judged;
+use exchange::Reading;
+ghost use Prim.Native.Nat.{_≤_};
+ghost use lib.ListN.{length};
+
+fn show_position(x: u16, y: u16) {
+    io::write_all(1, b" ");
+    io::print_decimal(1, x as u64);
+    io::write_all(1, b",");
+    io::print_decimal(1, y as u64);
+}
+
+// The first n positions.
+fn show_ring(xs: &[u16], ys: &[u16], n: usize)
+    requires { ⌜ length (now xs) ≤ length (now ys) ⌝ }
+{
+    let mut i = 0;
+    while i < xs.len() {
+        if i < n {
+            show_position(xs[i], ys[i]);
+        }
+        i += 1;
+    }
+}
+
+fn show_value(x: f64) {
+    if x < f64::from_bits(0x7ff0_0000_0000_0000) {
+        io::write_all(1, b", off the grid: ");
+        io::print_hex(1, f64::to_bits(x), 16);
+    }
+}
+
+// What the coordinate at a place is, in the block's byte order.
+fn show_coordinate(block: &[u8], place: usize) {
+    if 0 < block.len() {
+        let judged = exchange::judge(block, block[0], place);
+        if let Judged::As(c) = judged {
+            match c {
+                Coordinate::Grid(_) => {}
+                Coordinate::OffGrid(x) => show_value(x),
+                Coordinate::NotFinite => {
+                    io::write_all(1, b", not finite");
+                }
+            }
+        }
+    }
+}
+
+fn show(name: &[u8], block: &[u8]) {
+    let mut xs = [0u16; 16];
+    let mut ys = [0u16; 16];
+    io::write_all(1, name);
+    let answer = exchange::read(block, &mut xs, &mut ys);
+    match answer {
+        Reading::Ring(n) => {
+            io::write_all(1, b": ring of ");
+            io::print_decimal(1, n as u64);
+            io::write_all(1, b":");
+            show_ring(&xs, &ys, n);
+        }
+        Reading::Refused(r) => {
+            let number = r.number;
+            let place = r.place;
+            io::write_all(1, b": refused ");
+            io::print_decimal(1, number as u64);
+            io::write_all(1, b" ");
+            io::print_decimal(1, place as u64);
+            if 25 <= number {
+                if number <= 26 {
+                    show_coordinate(block, place);
+                }
+            }
+        }
+    }
+    io::write_all(1, b"\n");
+}
+
+fn main() {
+    show(b"GEOS, little-endian", &stored::SQUARE_GEOS_LITTLE);
+    show(b"GEOS, big-endian", &stored::SQUARE_GEOS_BIG);
+    show(b"GDAL, little-endian", &stored::SQUARE_GDAL_LITTLE);
+    show(b"GDAL, big-endian", &stored::SQUARE_GDAL_BIG);
+    show(b"an outline of ten", &stored::OUTLINE_GEOS);
+    show(b"the largest coordinates", &stored::CORNER_GEOS);
+    show(b"SRID", &stored::SRID_GEOS);
+    show(b"z, extended", &stored::Z_GEOS);
+    show(b"z, ISO", &stored::Z_GDAL);
+    show(b"a hole", &stored::HOLE_GEOS);
+    show(b"empty", &stored::EMPTY_GDAL);
+    show(b"MultiPolygon", &stored::MANY_GEOS);
+    show(b"Point", &stored::POINT_GEOS);
+    show(b"not closed", &stored::OPEN_GDAL);
+    show(b"three positions", &stored::SHORT_GDAL);
+    show(b"a ring of seventeen", &stored::LONG_GEOS);
+    show(b"half a metre", &stored::HALF_GEOS);
+    show(b"below zero, big-endian", &stored::BELOW_GEOS);
+    show(b"16384", &stored::ABOVE_GEOS);
+    show(b"-0", &stored::MINUS_ZERO_GEOS);
+    show(b"NaN", &stored::NAN);
+    show(b"infinite before a cut", &stored::INFINITE_CUT);
+    show(b"a byte less", &stored::CUT);
+    show(b"a byte more", &stored::LEFT_OVER);
+    show(b"no bytes", b"");
+}

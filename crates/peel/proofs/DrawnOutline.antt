@@ -1,0 +1,95 @@
+-- The outline that a draw gives, in one statement: how it is reached, what is left, and what its ring is. Assumes nothing.
+use mathlib.Core.Path.{_≡_, refl, sym, subst, _∙_}
+use mathlib.Core.Bool.{Bool, true, false, cond}
+use mathlib.Core.List.{List}
+use mathlib.Core.Option.{Option, none, some}
+use Prim.Native.Nat.{ℕ, zero, suc, _+_, _%_, _<_, _≤_}
+use lib.Dec.{ltb}
+use lib.ListN.{length, getD}
+use borrow.Author.Tests.{ltb-true}
+use Rattle.sheet.specs.Office.{Office, points, sides, triangles, tail, head, rims as hull-sides}
+use Rattle.sheet.specs.Acceptable.{Acceptable}
+use Rattle.peel.specs.Peel.{rim, on-rim, removable, long, best, peel, turned, peels, drawn, ring, peeled}
+use Rattle.peel.specs.Reached.{Reached, begun, more, Stripped, none-yet, one-more}
+use Rattle.peel.proofs.Marks.{Way, Held}
+use Rattle.peel.proofs.Reached.{Sound, sound}
+use Rattle.peel.proofs.Rings.{outlined, ring-length}
+use Rattle.peel.proofs.TopSide.{Top, best-top}
+use Rattle.peel.proofs.DrawEnds.{Done, drawn-ends}
+use Rattle.peel.proofs.Simple.{Simple, outline-simple, reads, side, once}
+
+-- the point at step i of going round a row for ever
+abbrev pub step : List ℕ → ℕ → ℕ
+step row i = getD row (i % length row) 0
+
+-- of marks k, after n peels at the limit
+pub record Drawing (o : Office) (limit n : ℕ) (k : List ℕ) : Type 0 where
+  -- the best side was peeled n times, each longer than the limit
+  pub by-best : Stripped o limit n k
+  -- no removable side is strictly longer than the limit
+  pub nothing-left : (s : ℕ) → s < sides o → removable o k s ≡ true → long o s ≤ limit
+  -- every point is a corner of a kept triangle
+  pub held : (p : ℕ) → p < points o → Held o k p
+  -- the tally's count, and the ring's length: the hull's and one more for each peel
+  pub count : peeled o k ≡ n
+  pub long-ring : length (ring o k) ≡ hull-sides o + n
+  -- the ring starts at the lowest point on the rim
+  pub on-rim-first : on-rim o k (step (ring o k) 0) ≡ true
+  pub lowest-first : (p : ℕ) → on-rim o k p ≡ true → step (ring o k) 0 ≤ p
+  -- it is closed: each step is along a rim side, the one after the last too; and each rim side is a step of it
+  pub along-rim : (i : ℕ) → Way o k (step (ring o k) i) (step (ring o k) (i + 1))
+  pub whole-rim : (s : ℕ) → s < sides o → rim o k s ≡ true → (i : ℕ) × (step (ring o k) i ≡ tail o s) × (step (ring o k) (i + 1) ≡ head o s)
+  -- it visits each of its points once
+  pub each-once : (i j : ℕ) → i < length (ring o k) → j < length (ring o k) → step (ring o k) i ≡ step (ring o k) j → i ≡ j
+  -- and it is a simple polygon
+  pub simple : Simple o (ring o k)
+
+module _ {o : Office} (a : Acceptable o) (limit : ℕ) where
+  -- reached by best sides
+  abbrev By : List ℕ → Type 0
+  By k = (m : ℕ) × Stripped o limit m k
+
+  turn-best : {n : ℕ} {k : List ℕ} (others : List ℕ → List ℕ) (b : Option ℕ) → best o k ≡ b → Stripped o limit n k → ((s : ℕ) → Stripped o limit (suc n) (peel k s) → By (others (peel k s)))
+      → By (turned o others limit k b)
+  unfolding turned
+  turn-best {n} others none f r ih = (n, r)
+  turn-best {n} {k} others (some s) f r ih = at (ltb limit (long o s)) refl
+    where
+      at : (b : Bool) → ltb limit (long o s) ≡ b → By (cond b (others (peel k s)) k)
+      at true e = ih s (one-more s r f (ltb-true limit (long o s) e))
+      at false e = (n, r)
+
+  peels-best : (fuel : ℕ) {n : ℕ} {k : List ℕ} → Stripped o limit n k → By (peels o fuel limit k)
+  unfolding peels
+  peels-best zero {n} r = (n, r)
+  peels-best (suc fuel) {n} {k} r = turn-best (peels o fuel limit) (best o k) refl r (λ s h. peels-best fuel h)
+
+  -- the best side is removable
+  stripped-reached : {n : ℕ} {k : List ℕ} → Stripped o limit n k → Reached o n k
+  stripped-reached none-yet = begun
+  stripped-reached (one-more {n} {k} s r e l) = let (b, u, _) = subst (Top a k (sides o)) e (best-top a k) in more s (stripped-reached r) b u
+
+  ring-of : {n : ℕ} {k : List ℕ} → Stripped o limit n k → Sound o n k → Done o limit k → Drawing o limit n k
+  ring-of {n} {k} b h d =
+      let out = outlined a h in
+      record {
+        by-best = b;
+        nothing-left = d;
+        held = h .held;
+        count = h .count;
+        long-ring = ring-length a h;
+        on-rim-first = subst (λ p. on-rim o k p ≡ true) (sym (reads a h 0)) (out .begins);
+        lowest-first = λ p e. subst (λ q. q ≤ p) (sym (reads a h 0)) (out .lowest p e);
+        along-rim = side a h;
+        whole-rim = λ s l e. let (i, x, y) = out .round .all (tail o s) (head o s) (s, l, e, refl, refl) in (i, reads a h i ∙ x, reads a h (i + 1) ∙ y);
+        each-once = once a h;
+        simple = outline-simple a h;
+      }
+
+  -- every draw of an acceptable office
+  pub drawn-outline : (n : ℕ) × Drawing o limit n (drawn o limit)
+  unfolding drawn
+  drawn-outline =
+      let (n, b) = peels-best (triangles o) none-yet in
+      let (_, _, _, d) = drawn-ends a limit in
+      (n, ring-of b (sound o a (stripped-reached b)) d)

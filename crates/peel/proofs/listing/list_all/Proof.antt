@@ -1,0 +1,93 @@
+-- `peel::listing::list_all` meets its contract: what is left to list gives the whole list. Assumes nothing.
+use mathlib.Core.Path.{_∙_}
+use mathlib.Core.List.{[]}
+use Prim.Native.Nat.{_-_, _/_, _<_}
+use native.Mathlib.Omega.{arith}
+use borrow.Author.Needs.{needs}
+use lib.ListN.{length, length-set}
+use Rattle.peel.specs.Code.{entries-on}
+use Rattle.sheet.specs.Office.{office}
+use Rattle.peel.proofs.Onward.{Drawing, draws, draws-on, falls, drew}
+use Rattle.peel.proofs.Noting.{Noting, notes, notes-one, notes-none, noted, shorter-is, final-is, least-there, peels-there, areas-there}
+use Rattle.peel.proofs.listing.list_all.Statement.{statement}
+use Rattle.peel.proofs.listing.list_all.Tie as tie
+
+abbrev Inv-loop : tie.InvT-loop
+Inv-loop xs ys corners mate kept₀ rim₀ least₀ peeled₀ area₀ tally₀ shortest₀ count₀ kept rim least peeled area tally shortest count =
+    Drawing (office xs ys corners) 0 mate kept₀ rim₀ (tally₀ .peeled) kept rim (tally .peeled) (tally .area) (tally .ring)
+    × Noting (office xs ys corners) (entries-on (office xs ys corners) kept₀ (tally₀ .peeled)) kept (tally .peeled) shortest count least₀ peeled₀ area₀ least peeled area
+
+abbrev μ-loop : tie.MeasureT-loop
+μ-loop xs ys corners mate kept₀ rim₀ least₀ peeled₀ area₀ tally₀ shortest₀ count₀ kept rim least peeled area tally shortest count =
+    length corners / 3 - tally .peeled
+
+-- nothing is left: the last entry has its place
+module _ (c : tie.After-enum-told Inv-loop μ-loop) where
+  abbrev at : tie.At-loop Inv-loop μ-loop
+  at = c .before .before .before .before .before .before .before .before .before .before
+
+  in-least : at .loop .count < length (at .loop .least)
+  in-least = least-there (at .loop .inv .0 .state) (c .before .before .before .before .before .before .before .step .ensures) (at .loop .inv .1) 0 [] (final-is (at .loop .inv .0 .state) (c .before .before .before .before .before .before .before .step .ensures) (at .loop .inv .1) (c .enum-told .given .1))
+
+  in-peeled : at .loop .count < length (at .loop .peeled)
+  in-peeled = peels-there (at .loop .inv .0 .state) (c .before .before .before .before .before .before .before .step .ensures) (at .loop .inv .1) 0 [] (final-is (at .loop .inv .0 .state) (c .before .before .before .before .before .before .before .step .ensures) (at .loop .inv .1) (c .enum-told .given .1))
+
+  in-area : at .loop .count < length (at .loop .area)
+  in-area = areas-there (at .loop .inv .0 .state) (c .before .before .before .before .before .before .before .step .ensures) (at .loop .inv .1) 0 [] (final-is (at .loop .inv .0 .state) (c .before .before .before .before .before .before .before .step .ensures) (at .loop .inv .1) (c .enum-told .given .1))
+
+-- a side shorter than all before was peeled: its entry has its place
+module _ (c : tie.Then1 Inv-loop μ-loop) where
+  abbrev at2 : tie.At-loop Inv-loop μ-loop
+  at2 = c .before .before .before .before .before .before .before .before .before .before .before .before
+
+  in-least2 : at2 .loop .count < length (at2 .loop .least)
+  in-least2 = least-there (at2 .loop .inv .0 .state) (c .before .before .before .before .before .before .before .before .before .step .ensures) (at2 .loop .inv .1) _ _ (shorter-is (at2 .loop .inv .0 .state) (c .before .before .before .before .before .before .before .before .before .step .ensures) (at2 .loop .inv .1) _ _ (c .before .before .answer .given .1) (c .if1 .taken))
+
+  in-peeled2 : at2 .loop .count < length (at2 .loop .peeled)
+  in-peeled2 = peels-there (at2 .loop .inv .0 .state) (c .before .before .before .before .before .before .before .before .before .step .ensures) (at2 .loop .inv .1) _ _ (shorter-is (at2 .loop .inv .0 .state) (c .before .before .before .before .before .before .before .before .before .step .ensures) (at2 .loop .inv .1) _ _ (c .before .before .answer .given .1) (c .if1 .taken))
+
+  in-area2 : at2 .loop .count < length (at2 .loop .area)
+  in-area2 = areas-there (at2 .loop .inv .0 .state) (c .before .before .before .before .before .before .before .before .before .step .ensures) (at2 .loop .inv .1) _ _ (shorter-is (at2 .loop .inv .0 .state) (c .before .before .before .before .before .before .before .before .before .step .ensures) (at2 .loop .inv .1) _ _ (c .before .before .answer .given .1) (c .if1 .taken))
+
+pub list-all-spec : {M : Type 1} → statement M
+list-all-spec =
+    tie.close
+    (tie.spec Inv-loop μ-loop
+    (λ c. (draws _ (c .before .before .before .before .before .before .before .before .pre .0), notes _ _ _ _ _ _ (c .before .before .before .before .before .before .before .before .pre .1)))
+    (λ c κs. c .before .before .loop .inv .0 .state)
+    (λ c. search needs)
+    (λ c. omega (arith, in-least c, at c .loop .inv .1 .longs, at c .before .before .before .before .before .before .before .before .before .good))
+    (λ c. in-least c)
+    (λ c. omega (arith, in-peeled c, at c .loop .inv .1 .longs, at c .before .before .before .before .before .before .before .before .before .good))
+    (λ c. in-peeled c)
+    (λ c. omega (arith, in-area c, at c .loop .inv .1 .longs, at c .before .before .before .before .before .before .before .before .before .good))
+    (λ c. in-area c)
+    (λ c. omega (arith, in-least c, at c .loop .inv .1 .longs, at c .before .before .before .before .before .before .before .before .before .good))
+    (λ c. c .before .before .before .before .before .before .before .step .ensures .kept-long ∙ at c .loop .inv .0 .kept-long)
+    (λ c. c .before .before .before .before .before .before .before .step .ensures .rim-long ∙ at c .loop .inv .0 .rim-long)
+    (λ c. length-set (at c .loop .least) (at c .loop .count) 0 ∙ at c .loop .inv .1 .longs .0)
+    (λ c. length-set (at c .loop .peeled) (at c .loop .count) _ ∙ at c .loop .inv .1 .longs .1)
+    (λ c. length-set (at c .loop .area) (at c .loop .count) _ ∙ at c .loop .inv .1 .longs .2)
+    (λ c. (
+      drew (at c .loop .inv .0) (c .before .before .before .before .before .before .before .step .ensures) (c .enum-told .given .1),
+      noted (at c .loop .inv .0 .state) (c .before .before .before .before .before .before .before .step .ensures) (at c .loop .inv .1) (c .enum-told .given .1),
+    ))
+    (λ c. search needs)
+    (λ c. search needs)
+    (λ c. omega (arith, in-least2 c, at2 c .loop .inv .1 .longs, at2 c .before .before .before .before .before .before .before .before .before .good))
+    (λ c. in-least2 c)
+    (λ c. omega (arith, in-peeled2 c, at2 c .loop .inv .1 .longs, at2 c .before .before .before .before .before .before .before .before .before .good))
+    (λ c. in-peeled2 c)
+    (λ c. omega (arith, in-area2 c, at2 c .loop .inv .1 .longs, at2 c .before .before .before .before .before .before .before .before .before .good))
+    (λ c. in-area2 c)
+    (λ c. omega (arith, in-least2 c, at2 c .loop .inv .1 .longs, at2 c .before .before .before .before .before .before .before .before .before .good))
+    (λ c. falls (c .before .before .before .before .before .before .before .before .before .before .before .before .loop .inv .0) (c .before .before .before .before .before .before .before .before .before .step .ensures) _ _ (c .before .before .answer .given .1))
+    (λ c. (
+      draws-on (c .before .before .before .before .before .before .before .before .before .before .before .before .loop .inv .0) (c .before .before .before .before .before .before .before .before .before .step .ensures) _ _ (c .before .before .answer .given .1),
+      notes-one (c .before .before .before .before .before .before .before .before .before .before .before .before .loop .inv .0 .state) (c .before .before .before .before .before .before .before .before .before .step .ensures) (c .before .before .before .before .before .before .before .before .before .before .before .before .loop .inv .1) _ _ (c .before .before .answer .given .1) (c .if1 .taken),
+    ))
+    (λ c. falls (c .before .before .before .before .before .before .before .before .before .before .before .before .loop .inv .0) (c .before .before .before .before .before .before .before .before .before .step .ensures) _ _ (c .before .before .answer .given .1))
+    (λ c. (
+      draws-on (c .before .before .before .before .before .before .before .before .before .before .before .before .loop .inv .0) (c .before .before .before .before .before .before .before .before .before .step .ensures) _ _ (c .before .before .answer .given .1),
+      notes-none (c .before .before .before .before .before .before .before .before .before .before .before .before .loop .inv .0 .state) (c .before .before .before .before .before .before .before .before .before .step .ensures) (c .before .before .before .before .before .before .before .before .before .before .before .before .loop .inv .1) _ _ (c .before .before .answer .given .1) (c .if1 .left),
+    )))

@@ -1,0 +1,26 @@
+// What the private searches and steps of this layer answer.
+use crate::Tally;
+
+// The side to peel next, by the place of its first corner, with its squared length.
+pub enum Best {
+    Side { place: usize, squared: u32 },
+    Nothing,
+}
+
+// What one step did.
+pub enum Step {
+    Peeled { triangle: usize, squared: u32 },
+    Nothing,
+}
+
+// A step's answer, and the tally that it hands back.
+pub struct Moved {
+    pub step: Step,
+    pub tally: Tally,
+}
+
+// How many entries a list has, and the tally of the last.
+pub struct Ended {
+    pub count: usize,
+    pub tally: Tally,
+}

@@ -1,0 +1,68 @@
+// The outline of an acceptable office at a limit.
+use crate::Tally;
+use crate::answers::Step;
+use crate::ring::lay_ring;
+use crate::start::begin;
+use crate::step::step;
+use sheet::sides::mates;
+ghost use mathlib.Core.Path.{_≡_};
+ghost use Prim.Native.Nat.{_/_, _≤_};
+ghost use lib.ListN.{length};
+ghost use Rattle.sheet.specs.Office.{office};
+ghost use Rattle.sheet.specs.Acceptable.{Acceptable};
+ghost use Rattle.peel.specs.Code.{State, Drew, Outlined};
+ghost use Rattle.peel.specs.Peel as peeling;
+ghost use Rattle.sheet.specs.Office as sheet;
+
+// Peels until nothing is removable above the limit.
+pub fn peel_all(
+    xs: &[u16],
+    ys: &[u16],
+    corners: &[u16],
+    mate: &[u16; 6129],
+    kept: &mut [u8],
+    rim: &mut [u8],
+    limit: u32,
+    begun: Tally,
+) -> Tally
+    requires { ⌜ State (office (now xs) (now ys) (now corners)) (now mate) (now kept) (now rim) (begun .peeled) (begun .area) (begun .ring) ⌝ }
+    ensures { λ r. ⌜ Drew (office (now (xs .entry)) (now (ys .entry)) (now (corners .entry))) limit (now (mate .entry)) (now (kept .entry)) (now (rim .entry)) (begun .peeled) (now (kept .exit)) (now (rim .exit)) (r .peeled) (r .area) (r .ring) ⌝ }
+{
+    let mut tally = begun;
+    loop {
+        let moved = step(xs, ys, corners, mate, kept, rim, limit, tally);
+        let next = moved.tally;
+        tally = next;
+        let answer = moved.step;
+        match answer {
+            Step::Nothing => {
+                return tally;
+            }
+            Step::Peeled {
+                triangle: _,
+                squared: _,
+            } => {}
+        }
+    }
+}
+
+// Draws the outline of an acceptable office whose rim has `hull` sides.
+pub fn draw_accepted(
+    xs: &[u16],
+    ys: &[u16],
+    corners: &[u16],
+    hull: usize,
+    limit: u32,
+    kept: &mut [u8],
+    rim: &mut [u8],
+    ring: &mut [u16],
+) -> Tally
+    requires { ⌜ Acceptable (office (now xs) (now ys) (now corners)) × (hull ≡ sheet.rims (office (now xs) (now ys) (now corners))) × (length (now corners) / 3 ≤ length (now kept)) × (length (now xs) ≤ length (now rim)) × (length (now xs) ≤ length (now ring)) ⌝ }
+    ensures { λ r. ⌜ Outlined (office (now (xs .entry)) (now (ys .entry)) (now (corners .entry))) (peeling.drawn (office (now (xs .entry)) (now (ys .entry)) (now (corners .entry))) limit) (now (kept .entry)) (now (rim .entry)) (now (ring .entry)) (now (kept .exit)) (now (rim .exit)) (now (ring .exit)) (r .peeled) (r .area) (r .ring) ⌝ }
+{
+    let mate = mates(corners);
+    let begun = begin(xs, ys, corners, &mate, hull, kept, rim);
+    let tally = peel_all(xs, ys, corners, &mate, kept, rim, limit, begun);
+    lay_ring(xs, ys, corners, &mate, kept, rim, tally, ring);
+    tally
+}

@@ -1,0 +1,109 @@
+// All outlines of an acceptable office.
+use crate::Tally;
+use crate::answers::Ended;
+use crate::answers::Step;
+use crate::ring::lay_ring;
+use crate::start::begin;
+use crate::step::step;
+use sheet::sides::mates;
+ghost use mathlib.Core.Path.{_≡_};
+ghost use Prim.Native.Nat.{_+_, _/_, _≤_};
+ghost use lib.ListN.{length};
+ghost use Rattle.sheet.specs.Office.{area, office};
+ghost use Rattle.sheet.specs.Acceptable.{Acceptable};
+ghost use Rattle.peel.specs.List.{entries};
+ghost use Rattle.peel.specs.Code.{State, Drew, entries-on, Noted, Lent, Written};
+ghost use Rattle.peel.specs.Peel as peeling;
+ghost use Rattle.sheet.specs.Office as sheet;
+
+// Peels until nothing is removable, and writes an entry before each peel that is shorter than all before, and one at the end.
+pub fn list_all(
+    xs: &[u16],
+    ys: &[u16],
+    corners: &[u16],
+    mate: &[u16; 6129],
+    kept: &mut [u8],
+    rim: &mut [u8],
+    begun: Tally,
+    least: &mut [u32],
+    peeled: &mut [u32],
+    area: &mut [u32],
+) -> Ended
+    requires { ⌜ State (office (now xs) (now ys) (now corners)) (now mate) (now kept) (now rim) (begun .peeled) (begun .area) (begun .ring) ⌝ }
+    requires { ⌜ (length (entries-on (office (now xs) (now ys) (now corners)) (now kept) (begun .peeled)) ≤ length (now least)) × (length (entries-on (office (now xs) (now ys) (now corners)) (now kept) (begun .peeled)) ≤ length (now peeled)) × (length (entries-on (office (now xs) (now ys) (now corners)) (now kept) (begun .peeled)) ≤ length (now area)) ⌝ }
+    ensures { λ r. ⌜ Drew (office (now (xs .entry)) (now (ys .entry)) (now (corners .entry))) 0 (now (mate .entry)) (now (kept .entry)) (now (rim .entry)) (begun .peeled) (now (kept .exit)) (now (rim .exit)) (r .tally .peeled) (r .tally .area) (r .tally .ring) ⌝ }
+    ensures { λ r. ⌜ Noted (entries-on (office (now (xs .entry)) (now (ys .entry)) (now (corners .entry))) (now (kept .entry)) (begun .peeled)) (now (least .entry)) (now (peeled .entry)) (now (area .entry)) (now (least .exit)) (now (peeled .exit)) (now (area .exit)) (r .count) ⌝ }
+{
+    let mut tally = begun;
+    let mut shortest: u64 = 4294967296;
+    let mut count: usize = 0;
+    loop {
+        let p = tally.peeled;
+        let a = tally.area;
+        let moved = step(xs, ys, corners, mate, kept, rim, 0, tally);
+        let next = moved.tally;
+        tally = next;
+        let answer = moved.step;
+        match answer {
+            Step::Nothing => {
+                least[count] = 0;
+                peeled[count] = p;
+                area[count] = a;
+                return Ended {
+                    count: count + 1,
+                    tally: tally,
+                };
+            }
+            Step::Peeled {
+                triangle: _,
+                squared,
+            } => {
+                let long = squared as u64;
+                if long < shortest {
+                    least[count] = squared;
+                    peeled[count] = p;
+                    area[count] = a;
+                    shortest = long;
+                    count += 1;
+                }
+            }
+        }
+    }
+}
+
+// Lists all outlines of an acceptable office whose rim has `hull` sides.
+pub fn list_accepted(
+    xs: &[u16],
+    ys: &[u16],
+    corners: &[u16],
+    hull: usize,
+    kept: &mut [u8],
+    rim: &mut [u8],
+    ring: &mut [u16],
+    least: &mut [u32],
+    peeled: &mut [u32],
+    area: &mut [u32],
+) -> usize
+    requires { ⌜ Acceptable (office (now xs) (now ys) (now corners)) × (hull ≡ sheet.rims (office (now xs) (now ys) (now corners))) × (length (now corners) / 3 ≤ length (now kept)) × (length (now xs) ≤ length (now rim)) × (length (now xs) ≤ length (now ring)) ⌝ }
+    requires { ⌜ (length (now xs) ≤ length (now least) + 2) × (length (now xs) ≤ length (now peeled) + 2) × (length (now xs) ≤ length (now area) + 2) ⌝ }
+    ensures { λ r. ⌜ Lent (office (now (xs .entry)) (now (ys .entry)) (now (corners .entry))) (peeling.drawn (office (now (xs .entry)) (now (ys .entry)) (now (corners .entry))) 0) (now (kept .entry)) (now (rim .entry)) (now (ring .entry)) (now (kept .exit)) (now (rim .exit)) (now (ring .exit)) ⌝ }
+    ensures { λ r. ⌜ Written (entries (office (now (xs .entry)) (now (ys .entry)) (now (corners .entry)))) (now (least .entry)) (now (peeled .entry)) (now (area .entry)) (now (least .exit)) (now (peeled .exit)) (now (area .exit)) r ⌝ }
+{
+    let mate = mates(corners);
+    let begun = begin(xs, ys, corners, &mate, hull, kept, rim);
+    let ended = list_all(
+        xs,
+        ys,
+        corners,
+        &mate,
+        kept,
+        rim,
+        begun,
+        least,
+        peeled,
+        area,
+    );
+    let tally = ended.tally;
+    lay_ring(xs, ys, corners, &mate, kept, rim, tally, ring);
+    ended.count
+}
