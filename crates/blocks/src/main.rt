@@ -80,13 +80,17 @@ fn show(name: &[u8], block: &[u8]) {
     io::write_all(1, b"\n");
 }
 
-fn main() {
+fn show_taken() {
     show(b"GEOS, little-endian", &stored::SQUARE_GEOS_LITTLE);
     show(b"GEOS, big-endian", &stored::SQUARE_GEOS_BIG);
     show(b"GDAL, little-endian", &stored::SQUARE_GDAL_LITTLE);
     show(b"GDAL, big-endian", &stored::SQUARE_GDAL_BIG);
     show(b"an outline of ten", &stored::OUTLINE_GEOS);
     show(b"the largest coordinates", &stored::CORNER_GEOS);
+}
+
+// Other shapes, and rings that the head gives away.
+fn show_other_shapes() {
     show(b"SRID", &stored::SRID_GEOS);
     show(b"z, extended", &stored::Z_GEOS);
     show(b"z, ISO", &stored::Z_GDAL);
@@ -94,6 +98,9 @@ fn main() {
     show(b"empty", &stored::EMPTY_GDAL);
     show(b"MultiPolygon", &stored::MANY_GEOS);
     show(b"Point", &stored::POINT_GEOS);
+}
+
+fn show_other_rings() {
     show(b"not closed", &stored::OPEN_GDAL);
     show(b"three positions", &stored::SHORT_GDAL);
     show(b"a ring of seventeen", &stored::LONG_GEOS);
@@ -101,9 +108,19 @@ fn main() {
     show(b"below zero, big-endian", &stored::BELOW_GEOS);
     show(b"16384", &stored::ABOVE_GEOS);
     show(b"-0", &stored::MINUS_ZERO_GEOS);
+}
+
+fn show_damaged() {
     show(b"NaN", &stored::NAN);
     show(b"infinite before a cut", &stored::INFINITE_CUT);
     show(b"a byte less", &stored::CUT);
     show(b"a byte more", &stored::LEFT_OVER);
     show(b"no bytes", b"");
+}
+
+fn main() {
+    show_taken();
+    show_other_shapes();
+    show_other_rings();
+    show_damaged();
 }

@@ -20,7 +20,8 @@ use Rattle.sheet.proofs.Side.{next-below}
 use Rattle.sheet.specs.Acceptable.{Acceptable}
 use Rattle.peel.specs.Peel.{rim, on-rim, whole, doubled, rims}
 use Rattle.peel.specs.Reached.{Reached, begun}
-use Rattle.peel.specs.Code.{front, State, Numbered, ends-marked, Marked}
+use Rattle.peel.specs.Code.{front, State, ends-marked, Marked}
+use Rattle.sheet.specs.Code.{Numbered}
 use Rattle.peel.specs.Answer.{mark}
 use Rattle.peel.proofs.Reached.{sound}
 use Rattle.peel.proofs.Greatest.{doubled-bound}

@@ -18,7 +18,8 @@ use Rattle.laws.proofs.Runs.{onward-only}
 use Rattle.laws.proofs.Walk.{length-walk}
 use Rattle.sheet.specs.Office.{Office, sides, tail, head, rims as hull-sides, office, bare}
 use Rattle.peel.specs.Peel.{rim, on-rim, after, rims, ring}
-use Rattle.peel.specs.Code.{front, State, Numbered, Leaves, Ringlike, Linked}
+use Rattle.peel.specs.Code.{front, State, Leaves, Ringlike, Linked}
+use Rattle.sheet.specs.Code.{Numbered}
 use Rattle.peel.specs.Answer.{mark}
 use Rattle.peel.proofs.Marks.{Way, OnRim, rim-iff, on-rim-iff}
 use Rattle.peel.proofs.Mated.{rim-bare}

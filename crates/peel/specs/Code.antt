@@ -82,10 +82,6 @@ pub record Drew (o : Office) (limit : ℕ) (mate kept rim : List ℕ) (begun : �
   pub kept-rest : drop (triangles o) kept′ ≡ drop (triangles o) kept
   pub rim-rest : drop (points o) rim′ ≡ drop (points o) rim
 
--- each corner is one of n points
-abbrev pub Numbered : List ℕ → ℕ → Type 0
-Numbered corners n = (s : ℕ) → s < length corners → getD corners s 0 < n
-
 -- both ends of side s are marked, where it is on the rim
 abbrev pub ends-marked : List ℕ → ℕ → Bool → List ℕ → List ℕ
 ends-marked corners s bared marks = cond bared (set (set marks (tail (bare corners) s) 1) (head (bare corners) s) 1) marks

@@ -10,7 +10,8 @@ ghost use lib.Seq.{sets};
 ghost use Rattle.laws.specs.First.{first, table, walk};
 ghost use Rattle.sheet.specs.Office.{office, bare, mate-of};
 ghost use Rattle.sheet.specs.Acceptable.{Single};
-ghost use Rattle.peel.specs.Code.{front, State, Numbered, Ringlike, Linked, Leaves};
+ghost use Rattle.peel.specs.Code.{front, State, Ringlike, Linked, Leaves};
+ghost use Rattle.sheet.specs.Code.{Numbered};
 ghost use Rattle.peel.specs.Peel as peeling;
 
 pub fn is_marked(rim: &[u8], p: usize) -> bool

@@ -9,7 +9,8 @@ ghost use lib.ListN.{length, take, drop, replicate};
 ghost use Rattle.laws.specs.First.{table};
 ghost use Rattle.sheet.specs.Office.{office, bare, mate-of};
 ghost use Rattle.sheet.specs.Acceptable.{Single, Acceptable};
-ghost use Rattle.peel.specs.Code.{front, State, Numbered, ends-marked, Marked};
+ghost use Rattle.peel.specs.Code.{front, State, ends-marked, Marked};
+ghost use Rattle.sheet.specs.Code.{Numbered};
 ghost use Rattle.peel.specs.Peel as peeling;
 ghost use Rattle.sheet.specs.Office as sheet;
 

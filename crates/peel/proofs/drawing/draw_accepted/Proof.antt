@@ -1,6 +1,7 @@
 -- `peel::drawing::draw_accepted` meets its contract. Assumes nothing.
 use mathlib.Core.Path.{_∙_}
 use borrow.Author.Needs.{needs}
+use Rattle.peel.proofs.Cornered.{corners-low, corners-single}
 use Rattle.peel.proofs.Outlining.{outlined, all-drawn}
 use Rattle.peel.proofs.drawing.draw_accepted.Statement.{statement}
 use Rattle.peel.proofs.drawing.draw_accepted.Tie as tie
@@ -15,7 +16,7 @@ pub draw-accepted-spec : {M : Type 1} → statement M
 draw-accepted-spec =
     tie.close
     (tie.spec
-    (λ c κs. search needs)
+    (λ c κs. search (corners-low, corners-single, needs))
     (λ c κs. search needs)
     (λ c κs. search needs)
     (λ c κs. (c .before .before .before .before .before .before .before .before .peel-all .ensures .state, c .before .before .before .before .before .before .before .before .before .before .before .before .before .before .before .before .before .before .before .before .before .before .before .before .before .before .before .pre .4))

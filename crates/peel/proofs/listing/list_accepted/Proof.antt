@@ -1,6 +1,7 @@
 -- `peel::listing::list_accepted` meets its contract. Assumes nothing.
 use mathlib.Core.Path.{_∙_}
 use borrow.Author.Needs.{needs}
+use Rattle.peel.proofs.Cornered.{corners-low, corners-single}
 use Rattle.peel.proofs.Outlining.{outlined, all-drawn, all-entries, enough, written}
 use Rattle.peel.proofs.listing.list_accepted.Statement.{statement}
 use Rattle.peel.proofs.listing.list_accepted.Tie as tie
@@ -24,7 +25,7 @@ pub list-accepted-spec : {M : Type 1} → statement M
 list-accepted-spec =
     tie.close
     (tie.spec
-    (λ c κs. search needs)
+    (λ c κs. search (corners-low, corners-single, needs))
     (λ c κs. search needs)
     list-all-requires
     (λ c κs. (c .before .before .before .before .before .before .before .before .before .before .before .before .before .before .before .list-all .ensures .0 .state, c .before .before .before .before .before .before .before .before .before .before .before .before .before .before .before .before .before .before .before .before .before .before .before .before .before .before .before .before .before .before .before .before .before .before .before .before .before .before .before .before .pre .0 .4))

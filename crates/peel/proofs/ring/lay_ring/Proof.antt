@@ -4,7 +4,7 @@ use borrow.Author.Needs.{needs}
 use lib.Dec.{eqb}
 use lib.ListN.{length, getD}
 use Rattle.laws.proofs.Search.{first-is}
-use Rattle.peel.specs.Code.{Numbered}
+use Rattle.sheet.specs.Code.{Numbered}
 use Rattle.peel.proofs.Ringed.{count-fits, ringlike, low-leaves, ring-written}
 use Rattle.peel.proofs.ring.lay_ring.Statement.{statement}
 use Rattle.peel.proofs.ring.lay_ring.Tie as tie
