@@ -1,4 +1,4 @@
-pub mod Front
 pub mod Decoding
 pub mod Rounds
 pub mod Chain
+pub mod Unique

@@ -1,50 +1,19 @@
--- The office that numbers in front of a list say, and lists filled by a rule up to what stood there. Assumes nothing.
+-- The office that numbers in front of a list say. Assumes nothing.
 use Prim.Native.Nat.{ℕ, zero, suc, _+_, _*_, _/_, _≤_, _<_}
-use mathlib.Core.Path.{_≡_, refl, sym, ap, ap₂, _∙_}
+use mathlib.Core.Path.{_≡_, refl, sym, ap, _∙_}
 use mathlib.Core.Bool.{Bool, true, false}
-use mathlib.Core.List.{List, _++_}
+use mathlib.Core.List.{List}
 use mathlib.Core.Option.{Option, none, some}
 use native.Mathlib.Omega.{arith}
-use borrow.Author.Needs.{needs}
 use borrow.Author.Tests.{le-leb, lt-leb, eq-eqb, ne-eqb}
-use lib.ListN.{length, getD, set, take, drop, take-append-drop}
-use lib.Seq.{getD-take, length-take-le, drop-set-lt}
+use lib.ListN.{length, getD, take}
+use lib.Seq.{getD-take, length-take-le}
 use Rattle.laws.specs.First.{table}
-use Rattle.laws.proofs.Fill.{Filled, fills-none, fills-one, fills-front, length-table}
+use Rattle.laws.proofs.Front.{table-same}
 use Rattle.sheet.specs.Office.{Office, office}
 use Rattle.listing.specs.Text.{parsed, numbers, sheet-of, values, words}
-use Rattle.listing.specs.Answer.{over}
 use Rattle.listing.specs.Code.{scanned, laid}
 use Rattle.listing.proofs.Words.{scan-words}
-
--- ---- lists filled by a rule
-
--- below i the list has the rule's values, and past n what stood there
-pub record Filling (rule : ℕ → ℕ) (n size : ℕ) (old l : List ℕ) (i : ℕ) : Type 0 where
-  pub filled : Filled rule n size l i
-  pub rest : drop n l ≡ drop n old
-
-module _ {rule : ℕ → ℕ} {n size : ℕ} {old : List ℕ} where
-  pub filling-none : n ≤ size → length old ≡ size → Filling rule n size old old 0
-  filling-none r e = record { filled = fills-none r e; rest = refl }
-
-  pub filling-one : {l : List ℕ} {i v : ℕ} → Filling rule n size old l i → i < n → v ≡ rule i → Filling rule n size old (set l i v) (i + 1)
-  filling-one {l} {i} {v} f b e = record { filled = fills-one (f .filled) b e; rest = drop-set-lt n l i v b ∙ f .rest }
-
-  pub filling-all : {l : List ℕ} {i : ℕ} → Filling rule n size old l i → n ≤ i → l ≡ over (table rule n) old
-  filling-all {l} {i} f b =
-      sym (take-append-drop n l)
-      ∙ ap₂ _++_ (fills-front (f .filled) b) (f .rest)
-      ∙ ap (λ (k : ℕ). table rule n ++ drop k old) (sym (length-table rule n))
-
-pub ruleset laying = (filling-none, filling-one, filling-all, needs)
-
--- ---- numbers in front of a list
-
-pub table-same : (f g : ℕ → ℕ) (n : ℕ) → ((i : ℕ) → i < n → f i ≡ g i) → table f n ≡ table g n
-unfolding table
-table-same f g zero h = refl
-table-same f g (suc n) h = ap₂ (λ a l. mathlib.Core.List._∷_ a l) (h 0 (omega arith)) (table-same (λ i. f (suc i)) (λ i. g (suc i)) n (λ i b. h (suc i) (omega arith)))
 
 module _ (text : List ℕ) where
   parsed-scan : length text ≤ 65536 → parsed text ≡ sheet-of (scanned 0 0 text)

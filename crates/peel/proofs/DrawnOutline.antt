@@ -22,8 +22,8 @@ use Rattle.peel.proofs.Simple.{Simple, outline-simple, reads, side, onc
 abbrev pub step : List ℕ → ℕ → ℕ
 step row i = getD row (i % length row) 0
 
--- of marks k, after n peels at the limit
-pub record Drawing (o : Office) (limit n : ℕ) (k : List ℕ) : Type 0 where
+-- a draw at the limit leaves marks k after n peels
+pub record DrawnAt (o : Office) (limit n : ℕ) (k : List ℕ) : Type 0 where
   -- the best side was peeled n times, each longer than the limit
   pub by-best : Stripped o limit n k
   -- no removable side is strictly longer than the limit
@@ -69,7 +69,7 @@ module _ {o : Office} (a : Acceptable o) (limit : ℕ) where
   stripped-reached none-yet = begun
   stripped-reached (one-more {n} {k} s r e l) = let (b, u, _) = subst (Top a k (sides o)) e (best-top a k) in more s (stripped-reached r) b u
 
-  ring-of : {n : ℕ} {k : List ℕ} → Stripped o limit n k → Sound o n k → Done o limit k → Drawing o limit n k
+  ring-of : {n : ℕ} {k : List ℕ} → Stripped o limit n k → Sound o n k → Done o limit k → DrawnAt o limit n k
   ring-of {n} {k} b h d =
       let out = outlined a h in
       record {
@@ -87,7 +87,7 @@ module _ {o : Office} (a : Acceptable o) (limit : ℕ) where
       }
 
   -- every draw of an acceptable office
-  pub drawn-outline : (n : ℕ) × Drawing o limit n (drawn o limit)
+  pub drawn-outline : (n : ℕ) × DrawnAt o limit n (drawn o limit)
   unfolding drawn
   drawn-outline =
       let (n, b) = peels-best (triangles o) none-yet in

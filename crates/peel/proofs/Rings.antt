@@ -27,7 +27,7 @@ use Rattle.peel.specs.Reached.{Reached, more}
 use Rattle.peel.proofs.Reached.{Sound, sound}
 
 -- a round of m rim sides that begins at the lowest point on the rim, read into the outline
-pub record Outlined (o : Office) (k : List ℕ) (m : ℕ) : Type 0 where
+pub record RingRound (o : Office) (k : List ℕ) (m : ℕ) : Type 0 where
   pub round : Round (Way o k) m
   pub begins : on-rim o k (round .at 0) ≡ true
   pub lowest : (p : ℕ) → on-rim o k p ≡ true → round .at 0 ≤ p
@@ -55,7 +55,7 @@ module _ {o : Office} {n : ℕ} {k : List ℕ} (a : Acceptable o) (h : Sound o n
       ends (inl c) (i, u, v) = (i, u ∙ c)
       ends (inr c) (i, u, v) = (i + 1, v ∙ c)
 
-  pub outlined : Outlined o k (hull-sides o + n)
+  pub outlined : RingRound o k (hull-sides o + n)
   unfolding ring
   outlined =
       let low = first (on-rim o k) (points o) in

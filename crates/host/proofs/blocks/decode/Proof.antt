@@ -6,7 +6,7 @@ use borrow.Author.Needs.{needs}
 use denote.Ref.{now}
 use lib.ListN.{length}
 use Rattle.host.specs.Blocks.{pair}
-use Rattle.host.proofs.Front.{Filling, laying, filling-one}
+use Rattle.laws.proofs.Front.{Filling, laying, filling-one}
 use Rattle.host.proofs.Decoding.{step-within, step-on}
 use Rattle.host.proofs.blocks.decode.Statement.{statement}
 use Rattle.host.proofs.blocks.decode.Tie as tie

@@ -5,7 +5,7 @@ use mathlib.Core.List.{List, _++_}
 use denote.Ref.{now}
 use Prim.Native.Nat.{ℕ}
 use lib.ListN.{length, getD, drop}
-use Rattle.host.proofs.Front.{Filling, laying, filling-all, table-map}
+use Rattle.laws.proofs.Front.{Filling, laying, filling-all, table-map}
 use Rattle.host.proofs.rings.follow.Statement.{statement}
 use Rattle.host.proofs.rings.follow.Tie as tie
 

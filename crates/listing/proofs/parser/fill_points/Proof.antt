@@ -1,7 +1,7 @@
 -- `listing::parser::fill_points` meets its contract. Assumes nothing.
 use Prim.Native.Nat.{_+_, _*_, _-_}
 use lib.ListN.{length, getD}
-use Rattle.listing.proofs.Laying.{Filling, laying}
+use Rattle.laws.proofs.Front.{Filling, laying}
 use Rattle.listing.proofs.parser.fill_points.Statement.{statement}
 use Rattle.listing.proofs.parser.fill_points.Tie as tie
 
