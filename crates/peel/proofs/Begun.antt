@@ -14,7 +14,6 @@ use borrow.Author.Tests.{eq-eqb, ne-eqb}
 use Rattle.laws.specs.First.{first, any, sum, table}
 use Rattle.laws.proofs.Test.{and-iff, or-iff, false-iff}
 use Rattle.laws.proofs.More.{any-more, sum-last, sum-below}
-use Rattle.laws.proofs.Count.{sum-same}
 use Rattle.sheet.specs.Office.{Office, triangles, tail, head, area, next, rims as hull-sides, office, bare, mate-of}
 use Rattle.sheet.proofs.Side.{next-below}
 use Rattle.sheet.specs.Acceptable.{Acceptable}
@@ -24,12 +23,8 @@ use Rattle.peel.specs.Code.{front, State, ends-marked, Marked}
 use Rattle.sheet.specs.Code.{Numbered}
 use Rattle.peel.specs.Answer.{mark}
 use Rattle.peel.proofs.Reached.{sound}
-use Rattle.peel.proofs.Greatest.{doubled-bound}
+use Rattle.peel.proofs.Greatest.{whole-sum, doubled-bound}
 use Rattle.peel.proofs.Rings.{rims-are}
-
-whole-sum : (o : Office) → doubled o (whole o) ≡ sum (λ i. natAbs (area o i)) (triangles o)
-unfolding doubled
-whole-sum o = sum-same _ _ (triangles o) (λ i b. ap (λ m. cond (eqb m 1) (natAbs (area o i)) 0) (getD-replicate (triangles o) i 1 0 b))
 
 -- the areas of t triangles
 pub record Summed (o : Office) (t total : ℕ) : Type 0 where

@@ -1,0 +1,4 @@
+pub mod Decoding
+pub mod Rounds
+pub mod Chain
+pub mod Unique
