@@ -1,62 +1,45 @@
+-- `exchange::reader::counts_fault` meets its contract: the count of rings, then that of positions.
 use borrow.Author.Needs.{needs}
 use Rattle.exchange.proofs.Asking.{asking}
 use Rattle.exchange.proofs.reader.counts_fault.Statement.{statement}
 use Rattle.exchange.proofs.reader.counts_fault.Tie as tie
-use Rattle.exchange.proofs.reader.counts_fault.Reads as reads
-use Rattle.exchange.proofs.reader.counts_fault.Lts as lts
-use Rattle.exchange.proofs.numbers.number4.Reads as number4-reads
-use Rattle.exchange.proofs.reader.faulted.Reads as faulted-reads
-use Rattle.exchange.proofs.reader.size_fault.Reads as size-fault-reads
 
--- src/reader.rt:185:18
 add-if1 : tie.Need-add-if1
 add-if1 c = search needs
 
--- src/reader.rt:185:18
 add-if1-2 : tie.Need-add-if1-2
 add-if1-2 c = search needs
 
--- src/reader.rt:186:28
 add-faulted : tie.Need-add-faulted
 add-faulted c = search needs
 
--- src/reader.rt:186:9
 faulted-requires : tie.Need-faulted-requires
 faulted-requires c κs = search needs
 
--- src/reader.rt:186:9
 returns : tie.Need-returns
 returns c = search asking depth 9
 
--- src/reader.rt:188:35
 add-number4 : tie.Need-add-number4
 add-number4 c = search needs
 
--- src/reader.rt:188:8
 number4-requires : tie.Need-number4-requires
 number4-requires c κs = search needs
 
--- src/reader.rt:189:28
 add-faulted-2 : tie.Need-add-faulted-2
 add-faulted-2 c = search needs
 
--- src/reader.rt:189:9
 faulted-requires-2 : tie.Need-faulted-requires-2
 faulted-requires-2 c κs = search needs
 
--- src/reader.rt:189:9
 returns-2 : tie.Need-returns-2
 returns-2 c = search asking depth 9
 
--- src/reader.rt:191:26
 add-size-fault : tie.Need-add-size-fault
 add-size-fault c = search needs
 
--- src/reader.rt:191:5
 size-fault-requires : tie.Need-size-fault-requires
 size-fault-requires c κs = search needs
 
--- src/reader.rt:181:1
 returns-3 : tie.Need-returns-3
 returns-3 c = search asking depth 9
 
