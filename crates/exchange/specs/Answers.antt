@@ -1,5 +1,5 @@
--- Document 01, 'Refusal numbers' and 'Polygon bytes', and document 02, 1/13: what is asked of an input, in order, what is answered, and what stands in lent memory
--- afterwards. Assumes nothing.
+-- Document 01, 'Refusal numbers' and 'Polygon bytes', and document 02, 1/13: what is asked of an input, in order, what is answered, and what
+-- stands in lent memory afterwards. Assumes nothing.
 use Prim.Native.Nat.{ℕ}
 use mathlib.Core.Bool.{Bool, cond}
 use mathlib.Core.List.{List, [], _∷_, _++_}
