@@ -17,7 +17,7 @@ extern "C" {
  *   limit      a squared length in square metres: a removable side strictly longer than it is peeled.
  *   out        the output; 16,413 bytes are enough for every office.
  *
- * Answers the number of bytes written, 77 at the least, or minus a refusal number:
+ * Answers the number of bytes written, or minus a refusal number:
  *
  *    -1  points_len is no multiple of 4
  *    -2  fewer than 3 or more than 1,024 points
@@ -35,9 +35,9 @@ extern "C" {
  *
  * They are tested in this order. A refusal writes nothing; otherwise the bytes of out past those written stay as they were.
  *
- * All memory is the caller's. The function reads points and triangles, writes out, keeps no pointer, allocates nothing and calls nothing
- * outside the archive; it may run in several threads at once, each on its own out. out must not overlap points or triangles. A pointer may
- * be null where its length is 0. It needs some 64 KiB of stack.
+ * All memory is the caller's. The function reads points and triangles, writes out, keeps no pointer and allocates nothing; of C's library
+ * it calls memcpy and memset. It may run in several threads at once, each on its own out. out must not overlap points or triangles. A
+ * pointer may be null where its length is 0. It needs some 140 KiB of stack.
  */
 int64_t outline_polygon(const uint8_t *points, size_t points_len,
                         const uint8_t *triangles, size_t triangles_len,
