@@ -1,13 +1,14 @@
 #!/usr/bin/python3
-"""Polygons to and from shapely and GDAL.
+"""Polygons to and from shapely and GDAL, and point files from them.
 
     interop.py PROGRAM [--itself]
 
 PROGRAM is the binary `interop`. Outlines that the library writes must be read by both as the same ring, valid, with the
-same area; polygons that they write, in either byte order, must be read by the library. What cannot be imported is
-skipped and counted. The last line is 'N passed, M failed'.
+same area; polygons that they write, in either byte order, must be read by the library, and so must MultiPoints, in either
+byte order and in mixtures of both. What cannot be imported is skipped and counted. The last line is 'N passed, M failed'.
 """
 import random
+import struct
 import subprocess
 import sys
 
@@ -46,6 +47,10 @@ class Shapely:
     def blocks(self, ring):
         polygon = self.geometry.Polygon(ring)
         return [self.wkb.dumps(polygon, big_endian=big) for big in (False, True)]
+
+    def files(self, points):
+        shape = self.geometry.MultiPoint(points)
+        return [self.wkb.dumps(shape, big_endian=big) for big in (False, True)]
 
     def others(self):
         """Geometries that are no polygon of one ring on the grid, with the refusal each must get."""
@@ -89,6 +94,14 @@ class Gdal:
         polygon.AddGeometry(outer)
         return [bytes(polygon.ExportToWkb(order)) for order in (self.ogr.wkbNDR, self.ogr.wkbXDR)]
 
+    def files(self, points):
+        shape = self.ogr.Geometry(self.ogr.wkbMultiPoint)
+        for x, y in points:
+            point = self.ogr.Geometry(self.ogr.wkbPoint)
+            point.AddPoint_2D(x, y)
+            shape.AddGeometry(point)
+        return [bytes(shape.ExportToWkb(order)) for order in (self.ogr.wkbNDR, self.ogr.wkbXDR)]
+
     def others(self):
         make = self.ogr.CreateGeometryFromWkt
         for order in (self.ogr.wkbNDR, self.ogr.wkbXDR):
@@ -106,6 +119,31 @@ def rings():
     yield [(0, 0), (16383, 0), (16383, 16383), (0, 16383)]
     yield [(0, 16383), (16383, 16383), (16383, 0), (0, 0)]
     yield [(5, 5), (5, 5), (5, 5)]
+
+
+def mixed(files, draw):
+    """The same points with a head and Points taken from either file at random."""
+    cuts = [0, 9] + list(range(30, len(files[0]) + 1, 21))
+    return b"".join(draw.choice(files)[a:b] for a, b in zip(cuts, cuts[1:]))
+
+
+def compare_points(name, peer):
+    draw = random.Random(SEED)
+    for points in rings():
+        files = peer.files(points)
+        wanted = "points" + "".join(f" {x} {y}" for x, y in points)
+        surveys.extend((name, f, wanted) for f in files + [mixed(files, draw) for _ in range(3)])
+    for value in (0.5, -1.0, -0.0, 16384.0, 1e300):
+        files = peer.files([(1, 2), (3, value), (5, 6)])
+        wanted = f"refused 26 43 {struct.pack('>d', value).hex()}"
+        surveys.extend((name, f, wanted) for f in files + [mixed(files, draw) for _ in range(3)])
+    few, many = [(1, 2)] * 2, [(1, 2)] * 1025
+    surveys.extend((name, f, "refused 24 5") for points in (few, many) for f in peer.files(points))
+    surveys.extend((name, f, "refused 22 1") for f in peer.blocks([(0, 0), (9, 0), (9, 9)]))
+    for file in peer.files([(1, 2), (3, 4), (5, 6)]):
+        surveys.append((name, file[:30] + bytes([file[30]]) + file[10:14][::-1] + file[35:], "refused 33 31"))
+        surveys.append((name, file + b"\0", "refused 28 72"))
+        surveys.append((name, file[:-1], "refused 20 64"))
 
 
 def compare(name, peer, outlines):
@@ -126,6 +164,7 @@ def compare(name, peer, outlines):
 PROGRAM = sys.argv[1:2]
 ITSELF = sys.argv[2:]
 sent = []
+surveys = []
 outlines = run("write", str(OUTLINES), str(SEED), *ITSELF)
 for name, make in (("shapely", Shapely), ("GDAL", Gdal)):
     try:
@@ -135,9 +174,13 @@ for name, make in (("shapely", Shapely), ("GDAL", Gdal)):
         print(f"skipped {name}: {missing}")
         continue
     compare(name, peer, outlines)
+    compare_points(name, peer)
 answers = run("read", *ITSELF, text="".join(block.hex() + "\n" for _, block, _ in sent))
 for (name, block, wanted), answer in zip(sent, answers, strict=True):
     expect(answer == wanted, f"of {name} {block.hex()[:200]}: {answer[:200]}, wanted {wanted[:200]}")
+answers = run("points", *ITSELF, text="".join(file.hex() + "\n" for _, file, _ in surveys))
+for (name, file, wanted), answer in zip(surveys, answers, strict=True):
+    expect(answer == wanted, f"of {name} {file.hex()[:200]}: {answer[:200]}, wanted {wanted[:200]}")
 print(f"{skipped} of 2 skipped")
 print(f"{passed} passed, {failed} failed")
 sys.exit(failed > 0)

@@ -2,7 +2,7 @@
 use Prim.Native.Nat.{ℕ, _-_, _<_, _≤_}
 use mathlib.Core.Path.{_≡_, refl, sym, ap, _∙_, subst}
 use mathlib.Core.Bool.{Bool, true, false, not, _&&_, cond}
-use mathlib.Core.List.{List, [], _∷_, _++_}
+use mathlib.Core.List.{List, [], _∷_, _++_, append-nil}
 use lib.Dec.{leb, eqb}
 use borrow.Author.Needs.{needs}
 use borrow.Author.Tests.{le-leb, lt-leb, eq-eqb, ne-eqb, not-true, not-false, leb-true}
@@ -47,7 +47,7 @@ module _ {A : Type 0} {x : Answer A} {r : ℕ} (m n k p : ℕ) (qs : List Questi
   pub passes-same : r ≡ n → x ≡ asked qs a → x ≡ asked (must (eqb m n) k p ∷ qs) a
   passes-same h e = passes (eqb m n) k p qs a (eq-eqb m n (sym is ∙ h)) e
 
--- ... that has to lie between two others, and one less than it
+-- ... that has to lie between two others, and d less than it
 module _ {A : Type 0} {x : Answer A} {r : ℕ} (m lo hi k p : ℕ) (qs : List Question) (a : A) (is : r ≡ m) where
   pub stops-under : r < lo → x ≡ refused k p → x ≡ asked (must (leb lo m && leb m hi) k p ∷ qs) a
   stops-under h e = stops (leb lo m && leb m hi) k p qs a (ap (λ (b : Bool). b && leb m hi) (ap (leb lo) (sym is) ∙ lt-leb lo r h)) e
@@ -62,24 +62,24 @@ module _ {A : Type 0} {x : Answer A} {r : ℕ} (m lo hi k p : ℕ) (qs : List Qu
       passes (leb lo m && leb m hi) k p qs a
       (ap (λ (b : Bool). b && leb m hi) (ap (leb lo) (sym is) ∙ le-leb lo r l) ∙ ap (λ (n : ℕ). leb n hi) (sym is) ∙ le-leb r hi h) e
 
-module _ {x : Answer ℕ} {r : ℕ} (m n k p : ℕ) (qs : List Question) (a : ℕ) (is : r ≡ m) where
-  pub stops-less : n < r - 1 → x ≡ refused k p → x ≡ asked (must (leb (m - 1) n) k p ∷ qs) a
-  stops-less h e = stops (leb (m - 1) n) k p qs a (ap (λ (i : ℕ). leb (i - 1) n) (sym is) ∙ lt-leb (r - 1) n h) e
+module _ {A : Type 0} {x : Answer A} {r : ℕ} (m d n k p : ℕ) (qs : List Question) (a : A) (is : r ≡ m) where
+  pub stops-less : n < r - d → x ≡ refused k p → x ≡ asked (must (leb (m - d) n) k p ∷ qs) a
+  stops-less h e = stops (leb (m - d) n) k p qs a (ap (λ (i : ℕ). leb (i - d) n) (sym is) ∙ lt-leb (r - d) n h) e
 
-  pub passes-less : r - 1 ≤ n → x ≡ asked qs a → x ≡ asked (must (leb (m - 1) n) k p ∷ qs) a
-  passes-less h e = passes (leb (m - 1) n) k p qs a (ap (λ (i : ℕ). leb (i - 1) n) (sym is) ∙ le-leb (r - 1) n h) e
-
-pub ends-less : {r : ℕ} (m : ℕ) → r ≡ m → gives (r - 1) ≡ asked [] (m - 1)
-unfolding asked
-ends-less m is = ap (λ (i : ℕ). gives (i - 1)) is
+  pub passes-less : r - d ≤ n → x ≡ asked qs a → x ≡ asked (must (leb (m - d) n) k p ∷ qs) a
+  passes-less h e = passes (leb (m - d) n) k p qs a (ap (λ (i : ℕ). leb (i - d) n) (sym is) ∙ le-leb (r - d) n h) e
 
 -- what a test that passed says
 pub is-below : {r : Bool} (m n : ℕ) → r ≡ leb m n → not r ≡ false → m ≤ n
 is-below {r} m n is e = leb-true m n (sym is ∙ not-false r e)
 
-pub ruleset asking = (stops-call, passes-call, stops-above, passes-below, stops-other, passes-same, stops-under, stops-over, passes-between, stops-less, passes-less, ends-less, ends, is-below, needs)
+pub ruleset asking = (stops-call, passes-call, stops-above, passes-below, stops-other, passes-same, stops-under, stops-over, passes-between, stops-less, passes-less, ends, is-below, needs)
 
 -- ---- questions in two parts
+
+-- nothing, or the refusal of the first that fails
+abbrev pub fault : List Question → Answer (Unit {0})
+fault qs = asked qs tt
 
 abbrev pub andThen : {A B : Type 0} → Answer A → Answer B → Answer B
 andThen (gives a) y = y
@@ -102,6 +102,22 @@ module _ {A B : Type 0} {x : Answer B} (ps qs : List Question) (a : A) (b : B) w
 
   pub stops-first : (k p : ℕ) → refused k p ≡ asked ps a → x ≡ refused k p → x ≡ asked (ps ++ qs) b
   stops-first k p h e = e ∙ ap (λ (y : Answer A). andThen y (asked qs b)) h ∙ sym (asked-both ps qs a b)
+
+-- the same questions before another answer
+asked-other : {A B : Type 0} (qs : List Question) (a : A) (b : B) → asked qs b ≡ andThen (asked qs a) (gives b)
+unfolding asked
+asked-other qs a b = ap (λ (l : List Question). asked l b) (sym (append-nil qs)) ∙ asked-both qs [] a b
+
+module _ {A B : Type 0} {x : Answer B} (qs : List Question) (a : A) (b : B) where
+  pub refused-other : (k p : ℕ) → refused k p ≡ asked qs a → x ≡ refused k p → x ≡ asked qs b
+  refused-other k p h e = e ∙ ap (λ (y : Answer A). andThen y (gives b)) h ∙ sym (asked-other qs a b)
+
+  pub gives-other : (c : A) → gives c ≡ asked qs a → x ≡ gives b → x ≡ asked qs b
+  gives-other c h e = e ∙ ap (λ (y : Answer A). andThen y (gives b)) h ∙ sym (asked-other qs a b)
+
+-- what is given is what was to be given
+pub given-is : {A : Type 0} {b : A} (qs : List Question) (a : A) → gives b ≡ asked qs a → b ≡ a
+given-is {A} {b} qs a e = let z : gives a ≡ gives b = gives-other qs a a b e refl ∙ sym e in cc
 
 -- what a refusal leaves in lent memory
 pub stays : {A : Type 0} {x : Answer A} (k p : ℕ) (new old : List ℕ) → x ≡ refused k p → old ≡ over x new old

@@ -13,8 +13,9 @@ use Rattle.exchange.specs.declared.Coordinate.the-variants.{Grid, OffGri
 use Rattle.exchange.specs.Answers.{Question, must, Answer, gives, refused, asked}
 use Rattle.exchange.specs.Bytes.{numberAt}
 use Rattle.exchange.specs.Coordinates.{coordinateAt, onGrid}
-use Rattle.exchange.specs.Reading.{coordinates, count, order-at, length-at, head-asks}
-use Rattle.exchange.proofs.Asking.{passes, passes-below, ends}
+use Rattle.exchange.specs.Reading.{run, coordinate-asks, coordinates, count, count-asks, order-at, type-asks, length-at, head-asks}
+use Rattle.exchange.proofs.Asking.{passes, passes-below, ends, passes-all, gives-other, fault}
+use Rattle.exchange.proofs.Scanned.{ran, scanned}
 
 module _ {A : Type 0} {b : A} where
   pub passed-one : (t : Bool) (k p : ℕ) (qs : List Question) (a : A) → gives b ≡ asked (must t k p ∷ qs) a → (t ≡ true) × (gives b ≡ asked qs a)
@@ -99,19 +100,33 @@ head-answer s at room n h =
     (passes-below (m - 1) room _ _ _ _ (omega (arith, h .counted, h .fits))
     (ends (m - 1) (ap gives is))))))))))
 
+-- the two parts of a head, passed one after the other
+pub head-passed : (s : List ℕ) (at room : ℕ) → gives tt ≡ fault (type-asks s at 3 22) → gives tt ≡ fault (count-asks (order-at s at) s at room)
+    → gives (length-at s at) ≡ asked (head-asks s at room) (length-at s at)
+head-passed s at room g f =
+    passes-all (type-asks s at 3 22) (count-asks (order-at s at) s at room) tt (length-at s at) g
+    (gives-other (count-asks (order-at s at) s at room) tt (length-at s at) tt f refl)
+
 -- ---- coordinates that were passed
 
 pub coordinate-passed : {A : Type 0} {b : A} (k order : ℕ) (s : List ℕ) (at : ℕ) (a : A) → gives b ≡ asked (coordinates (suc k) order s at) a
     → (at + 8 ≤ length s) × (onGrid (coordinateAt order s at) ≡ true) × (gives b ≡ asked (coordinates k order s (at + 8)) a)
-unfolding coordinates
+unfolding run
 coordinate-passed k order s at a e =
     let q1 = passed-one (leb (at + 8) (length s)) 20 at _ a e in
     let q2 = passed-one (onGrid (coordinateAt order s at)) _ at _ a (q1 .1) in
     (leb-true (at + 8) (length s) (q1 .0), q2 .0, q2 .1)
 
-pub coordinates-there : {A : Type 0} {b : A} (k order : ℕ) (s : List ℕ) (at : ℕ) (a : A) → at ≤ length s → gives b ≡ asked (coordinates k order s at) a → at + 8 * k ≤ length s
-coordinates-there zero order s at a h e = omega arith
-coordinates-there (suc k) order s at a h e =
-    let c = coordinate-passed k order s at a e in
-    let r : at + 8 + 8 * k ≤ length s = coordinates-there k order s (at + 8) a (c .0) (c .2) in
+-- what was passed is there, where each says so
+pub ran-there : (step : ℕ) (asks : ℕ → List Question) (s : List ℕ) → ((at : ℕ) → gives tt ≡ fault (asks at) → at + step ≤ length s)
+    → (k at : ℕ) → at ≤ length s → gives tt ≡ ran step asks k at → at + step * k ≤ length s
+unfolding run
+ran-there step asks s each zero at h e = omega arith
+ran-there step asks s each (suc k) at h e =
+    let q = passed-both (asks at) (run step asks k (at + step)) tt tt e in
+    let r : at + step + step * k ≤ length s = ran-there step asks s each k (at + step) (each at (q .0)) (q .1) in
     omega arith
+
+pub coordinates-there : (k order : ℕ) (s : List ℕ) (at : ℕ) → at ≤ length s → gives tt ≡ scanned k order s at → at + 8 * k ≤ length s
+coordinates-there k order s at h e =
+    ran-there 8 (coordinate-asks order s) s (λ p g. leb-true (p + 8) (length s) (passed-one (leb (p + 8) (length s)) 20 p _ tt g .0)) k at h e

@@ -10,10 +10,16 @@ pub mod Heads
 pub mod Polygons
 pub mod Words
 pub mod Lows
+pub mod Placed
 pub mod ReadAfterWrite
 pub mod WriteAfterRead
 pub mod ByteOrders
 pub mod Runs
+pub mod Shapes
+pub mod PointFiles
+pub mod PointsExactly
+pub mod SentExactly
+pub mod PointsReadBack
 pub mod Refused
 pub mod ReadExactly
 pub mod WriteExactly

@@ -13,8 +13,8 @@ use lib.Seq.{take-at, getD-at}
 use Rattle.laws.proofs.Test.{and-iff}
 use Rattle.exchange.specs.Coordinates.{gridAt}
 use Rattle.exchange.specs.Writing.{around, low}
-use Rattle.exchange.specs.Reading.{grids}
-use Rattle.exchange.proofs.Scanned.{grids-length}
+use Rattle.exchange.specs.Reading.{row, grids}
+use Rattle.exchange.proofs.Scanned.{row-length}
 
 -- ---- at most 16,383
 
@@ -61,7 +61,7 @@ low-front (b ∷ x) a e =
 -- ---- numbers sixteen bytes apart
 
 grids-last : (k order : ℕ) (s : List ℕ) (at : ℕ) → grids (k + 1) order s at ≡ grids k order s at ++ (gridAt order s (at + 16 * k) ∷ [])
-unfolding grids
+unfolding row
 grids-last zero order s at =
     let e : at ≡ at + 16 * 0 = omega arith in
     ap (λ (n : ℕ). gridAt order s n ∷ []) e
@@ -71,7 +71,7 @@ grids-last (suc k) order s at =
     ap (λ (n : ℕ). grids n order s at) e ∙ ap (λ (l : List ℕ). gridAt order s at ∷ l) (grids-last k order s (at + 16) ∙ ap (λ (n : ℕ). grids k order s (at + 16) ++ (gridAt order s n ∷ [])) p)
 
 grids-first : (k order : ℕ) (s : List ℕ) (at : ℕ) → 1 ≤ k → getD (grids k order s at) 0 0 ≡ gridAt order s at
-unfolding grids
+unfolding row
 grids-first zero order s at h = absurd (omega arith)
 grids-first (suc k) order s at h = refl
 
@@ -81,9 +81,9 @@ pub around-back : (n order : ℕ) (s : List ℕ) (at : ℕ) (x : List ℕ) → l
 around-back n order s at x e h g =
     let l : grids n order s at ++ (gridAt order s (at + 16 * n) ∷ []) ≡ x ++ (getD x 0 0 ∷ []) = sym (grids-last n order s at) ∙ g in
     let front : grids n order s at ≡ x =
-    sym (take-at (grids n order s at) (gridAt order s (at + 16 * n) ∷ []) n (grids-length n order s at)) ∙ ap (take n) l ∙ take-at x (getD x 0 0 ∷ []) n e in
+    sym (take-at (grids n order s at) (gridAt order s (at + 16 * n) ∷ []) n (row-length 16 (gridAt order s) n at)) ∙ ap (take n) l ∙ take-at x (getD x 0 0 ∷ []) n e in
     let back : gridAt order s (at + 16 * n) ≡ getD x 0 0 =
-    sym (getD-at (grids n order s at) (gridAt order s (at + 16 * n)) [] 0 n (grids-length n order s at)) ∙ ap (λ (k : List ℕ). getD k n 0) l ∙ getD-at x (getD x 0 0) [] 0 n e in
+    sym (getD-at (grids n order s at) (gridAt order s (at + 16 * n)) [] 0 n (row-length 16 (gridAt order s) n at)) ∙ ap (λ (k : List ℕ). getD k n 0) l ∙ getD-at x (getD x 0 0) [] 0 n e in
     (front, sym (grids-first n order s at h) ∙ ap (λ (k : List ℕ). getD k 0 0) front ∙ sym back)
 
 -- the other way round: where the first is the last, all the numbers are those before it with the first repeated last

@@ -8,7 +8,6 @@ use borrow.Author.Tests.{eqb-true, eq-eqb}
 use lib.Dec.{leb, eqb}
 use lib.ListN.{length, drop}
 use lib.Seq.{sets}
-use Rattle.laws.proofs.Put.{put-front}
 use Rattle.laws.proofs.Test.{and-iff}
 use Rattle.exchange.specs.declared.Reading.{Reading}
 use Rattle.exchange.specs.declared.Reading.the-variants.{Ring}
@@ -17,7 +16,7 @@ use Rattle.exchange.specs.Bytes.{numberAt}
 use Rattle.exchange.specs.Coordinates.{gridAt}
 use Rattle.exchange.specs.Reading.{coordinates, grids, count, order-at, length-at, head-asks, closes, polygon-asks, end, read-answer}
 use Rattle.exchange.proofs.Asking.{passes, stops, stops-above, passes-below, ends, passes-all, stops-first}
-use Rattle.exchange.proofs.Scanned.{scanned, grids-length}
+use Rattle.exchange.proofs.Scanned.{scanned, filled-row}
 use Rattle.exchange.proofs.Heads.{Headed, head-good, head-answer, passed-one, passed-all, passed-both, coordinates-there}
 
 -- the first position of a ring of length n and the last have the same grid numbers
@@ -88,7 +87,7 @@ polygon-good s at room n e =
       fine = f;
       same-x = eqb-true _ _ (same .0);
       same-y = eqb-true _ _ (same .1);
-      whole = omega (arith, coordinates-there (2 * (n + 1)) o s (at + 13) tt (h .there) f);
+      whole = omega (arith, coordinates-there (2 * (n + 1)) o s (at + 13) (h .there) f);
     }
 
 -- ... and the other way round
@@ -129,7 +128,4 @@ module _ (s : List ℕ) (room n : ℕ) (answer : gives n ≡ asked (polygon-asks
   -- a list that was filled from a place on
   pub filled : (at : ℕ) (old new : List ℕ) → n ≤ length old → new ≡ sets old 0 (grids n (order-at s 0) s at)
       → new ≡ over (gives n) (grids (length-at s 0) (order-at s 0) s at) old
-  filled at old new h e =
-      let l : length (grids n (order-at s 0) s at) ≡ n = grids-length n (order-at s 0) s at in
-      e ∙ put-front (grids n (order-at s 0) s at) old (omega arith)
-      ∙ ap (λ (k : ℕ). grids k (order-at s 0) s at ++ drop (length (grids k (order-at s 0) s at)) old) n-is
+  filled at old new h e = filled-row 16 (gridAt (order-at s 0) s) n (length-at s 0) at n-is old new h e

@@ -7,37 +7,24 @@ use native.Mathlib.Omega.{arith}
 use borrow.Author.Tests.{le-leb, eq-eqb}
 use lib.Dec.{lit<}
 use lib.ListN.{length, drop, getD, length-drop, length-append}
-use lib.Seq.{drop-at, drop-drop, getD-drop}
-use lib.IntN.{pos}
-use lib.Ieee.{binary64, ofBits, ofInt}
-use lib.Ieee.Bits.{toBits-lt}
-use lib.Ieee.Fits.{ofInt-fits}
 use Rattle.laws.proofs.Test.{and-iff}
-use Rattle.exchange.specs.declared.Coordinate.the-variants.{Grid}
 use Rattle.exchange.specs.Answers.{Answer, gives, asked, over}
-use Rattle.exchange.specs.Coordinates.{coordinate, encode, coordinateAt, refusalOf, gridOf, gridAt}
+use Rattle.exchange.specs.Coordinates.{gridOf, gridAt}
 use Rattle.exchange.specs.Bytes.{inOrder, numberAt}
 use Rattle.exchange.specs.Writing.{position, positions, around, head, polygon, low, size}
-use Rattle.exchange.specs.Reading.{grids, order-at, length-at, xs-at, ys-at, polygon-asks, read-answer}
-use Rattle.exchange.proofs.Judgements.{judge-encode}
-use Rattle.exchange.proofs.Scanned.{scanned, fine-there, no-more}
+use Rattle.exchange.specs.Reading.{row, grids, order-at, length-at, xs-at, ys-at, polygon-asks, read-answer}
+use Rattle.exchange.proofs.Scanned.{scanned, no-more}
 use Rattle.exchange.proofs.Lengths.{around-length, around-same, head-length, polygon-length}
-use Rattle.exchange.proofs.Words.{word-at, word-past, word-room}
+use Rattle.exchange.proofs.Words.{word-at, word-past}
+use Rattle.exchange.proofs.Placed.{Begun, begun, position-back, placed-scanned}
 use Rattle.exchange.proofs.Lows.{low-parts, low-around, around-back}
 use Rattle.exchange.proofs.Heads.{Headed}
 use Rattle.exchange.proofs.Polygons.{Ringed, ringed-answer, all-read}
 
-encode-lt : (g : ℕ) → encode g < 256 ^ 8
-encode-lt g = toBits-lt binary64 (ofInt binary64 (pos g)) (ofInt-fits binary64 (pos g))
-
 module _ (order : ℕ) where
-  -- a grid number's bytes at a place are that number there
-  coordinate-back : (s : List ℕ) (at g : ℕ) (more : List ℕ) → g ≤ 16383 → drop at s ≡ inOrder order 8 (encode g) ++ more → coordinateAt order s at ≡ Grid g
-  coordinate-back s at g more h e = ap (λ (b : ℕ). coordinate (ofBits binary64 b)) (word-at order s at 8 (encode g) more e (encode-lt g)) ∙ judge-encode g (omega arith)
-
   positions-back : (xs ys more s : List ℕ) (at : ℕ) → length xs ≡ length ys → low xs ≡ true → low ys ≡ true → drop at s ≡ positions order xs ys ++ more
       → (gives tt ≡ scanned (2 * length xs) order s at) × (grids (length xs) order s at ≡ xs) × (grids (length xs) order s (at + 8) ≡ ys)
-  unfolding positions grids
+  unfolding positions row
   positions-back [] [] more s at e a b d = (no-more order s at tt refl, refl, refl)
   positions-back [] (y ∷ ys) more s at e a b d = absurd (omega arith)
   positions-back (x ∷ xs) [] more s at e a b d = absurd (omega arith)
@@ -46,22 +33,13 @@ module _ (order : ℕ) where
       let lx = low-parts x xs a in
       let ly = low-parts y ys b in
       let tail : List ℕ = positions order xs ys ++ more in
-      let dx : drop at s ≡ inOrder order 8 (encode x) ++ (inOrder order 8 (encode y) ++ tail) =
-      d ∙ append-assoc (position order x y) (positions order xs ys) more ∙ append-assoc (inOrder order 8 (encode x)) (inOrder order 8 (encode y)) tail in
-      let dy : drop (at + 8) s ≡ inOrder order 8 (encode y) ++ tail = word-past order s at 8 (encode x) (inOrder order 8 (encode y) ++ tail) dx in
-      let dn : drop (at + 8 + 8) s ≡ tail = word-past order s (at + 8) 8 (encode y) tail dy in
-      let cx = coordinate-back s at x (inOrder order 8 (encode y) ++ tail) (lx .0) dx in
-      let cy = coordinate-back s (at + 8) y tail (ly .0) dy in
-      let p1 : at + 8 + 8 ≡ at + 16 = omega arith in
+      let p = position-back order s at x y tail (lx .0) (ly .0) (d ∙ append-assoc (position order x y) (positions order xs ys) more) in
       let p2 : at + 16 + 8 ≡ at + 8 + 16 = omega arith in
       let two : suc (suc (2 * length xs)) ≡ 2 * suc (length xs) = omega arith in
-      let r = positions-back xs ys more s (at + 16) f (lx .1) (ly .1) (ap (λ (n : ℕ). drop n s) (sym p1) ∙ dn) in (
-        fine-there (suc (2 * length xs)) order s at tt (word-room order s at 8 (encode x) _ dx (omega arith)) (sym (ap refusalOf cx)) refl
-            (fine-there (2 * length xs) order s (at + 8) tt (word-room order s (at + 8) 8 (encode y) tail dy (omega arith)) (sym (ap refusalOf cy)) refl
-            (r .0 ∙ ap (scanned (2 * length xs) order s) (sym p1)))
-            ∙ ap (λ (k : ℕ). scanned k order s at) two,
-        ap (λ (g : ℕ). g ∷ grids (length xs) order s (at + 16)) (ap gridOf cx) ∙ ap (λ (l : List ℕ). x ∷ l) (r .1),
-        ap (λ (g : ℕ). g ∷ grids (length xs) order s (at + 8 + 16)) (ap gridOf cy) ∙ ap (λ (l : List ℕ). y ∷ l) (ap (grids (length xs) order s) (sym p2) ∙ r .2),
+      let r = positions-back xs ys more s (at + 16) f (lx .1) (ly .1) (p .after) in (
+        placed-scanned order s (2 * length xs) at x y tail p (r .0) ∙ ap (λ (k : ℕ). scanned k order s at) two,
+        ap (λ (g : ℕ). g ∷ grids (length xs) order s (at + 16)) (ap gridOf (p .x-is)) ∙ ap (λ (l : List ℕ). x ∷ l) (r .1),
+        ap (λ (g : ℕ). g ∷ grids (length xs) order s (at + 8 + 16)) (ap gridOf (p .y-is)) ∙ ap (λ (l : List ℕ). y ∷ l) (ap (grids (length xs) order s) (sym p2) ∙ r .2),
       )
 
 -- a ring that the writer takes
@@ -83,27 +61,22 @@ module _ (order : ℕ) (two : order ≤ 1) (x y : List ℕ) (ok : Writable x y) 
   whole : at + 13 + 16 * (n + 1) ≤ length s
   whole = omega (arith, length-drop at s, ap length stands, length-append (polygon order x y) more, polygon-length order x y (ok .same))
 
-  is-order : order-at s at ≡ order
-  is-order =
-      let z : at + 0 ≡ at = omega arith in
-      ap (λ (i : ℕ). getD s i 0) (sym z) ∙ sym (getD-drop at s 0 0) ∙ ap (λ (l : List ℕ). getD l 0 0) stands
-
   abbrev after : List ℕ
   after = p ++ more
 
-  w0 : drop at s ≡ head order n ++ after
-  w0 = stands ∙ append-assoc (head order n) p more
+  starts : Begun s at order 3 (inOrder order 4 1 ++ (inOrder order 4 (n + 1) ++ after))
+  starts =
+      begun s at order 3 (inOrder order 4 1 ++ (inOrder order 4 (n + 1) ++ after)) two (lit< tt)
+      (stands ∙ append-assoc (head order n) p more
+      ∙ ap (λ (l : List ℕ). order ∷ l)
+      (append-assoc (inOrder order 4 3) (inOrder order 4 1 ++ inOrder order 4 (n + 1)) after
+      ∙ ap (λ (l : List ℕ). inOrder order 4 3 ++ l) (append-assoc (inOrder order 4 1) (inOrder order 4 (n + 1)) after)))
 
-  w1 : drop (at + 1) s ≡ inOrder order 4 3 ++ (inOrder order 4 1 ++ (inOrder order 4 (n + 1) ++ after))
-  w1 =
-      sym (drop-drop 1 at s) ∙ ap (drop 1) w0
-      ∙ append-assoc (inOrder order 4 3) (inOrder order 4 1 ++ inOrder order 4 (n + 1)) after
-      ∙ ap (λ (l : List ℕ). inOrder order 4 3 ++ l) (append-assoc (inOrder order 4 1) (inOrder order 4 (n + 1)) after)
+  is-order : order-at s at ≡ order
+  is-order = starts .is-order
 
   w5 : drop (at + 5) s ≡ inOrder order 4 1 ++ (inOrder order 4 (n + 1) ++ after)
-  w5 =
-      let e : at + 5 ≡ at + 1 + 4 = omega arith in
-      ap (λ (i : ℕ). drop i s) e ∙ word-past order s (at + 1) 4 3 _ w1
+  w5 = starts .after
 
   w9 : drop (at + 9) s ≡ inOrder order 4 (n + 1) ++ after
   w9 =
@@ -118,8 +91,8 @@ module _ (order : ℕ) (two : order ≤ 1) (x y : List ℕ) (ok : Writable x y) 
   headed : (room : ℕ) → n ≤ room → Headed s at room n
   headed room fits =
       let o = is-order in record {
-        order = rw o two;
-        three = ap (λ (k : ℕ). numberAt 4 k s (at + 1)) o ∙ word-at order s (at + 1) 4 3 _ w1 (lit< tt);
+        order = starts .typed .0 .1;
+        three = starts .typed .2;
         one = ap (λ (k : ℕ). numberAt 4 k s (at + 5)) o ∙ word-at order s (at + 5) 4 1 _ w5 (lit< tt);
         counted = ap (λ (k : ℕ). numberAt 4 k s (at + 9)) o ∙ word-at order s (at + 9) 4 (n + 1) after w9 (omega (arith, ok .most));
         there = omega (arith, whole);

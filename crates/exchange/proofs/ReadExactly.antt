@@ -12,12 +12,12 @@ use Rattle.laws.proofs.Test.{and-iff}
 use Rattle.exchange.specs.Answers.{Question, must, Answer, gives, refused, asked}
 use Rattle.exchange.specs.Coordinates.{gridAt}
 use Rattle.exchange.specs.Reading.{count, order-at, length-at, last, end, polygon-asks, read-asks, read-answer}
-use Rattle.exchange.specs.Refusals.{Good, Roomy, Gridded, Closed, PolygonFault, ReadFault, within, left-over, Taken}
+use Rattle.exchange.specs.Refusals.{Good, GoodHead, Gridded, Closed, PolygonFault, ReadFault, within, left-over, Taken}
 use Rattle.exchange.proofs.Asking.{stops-above, passes, passes-below, ends, passes-all, stops-first, ask-cases, part-cases}
 use Rattle.exchange.proofs.Scanned.{scanned}
 use Rattle.exchange.proofs.Heads.{Headed, passed-one, passed-all, passed-both}
 use Rattle.exchange.proofs.Polygons.{Ringed, polygon-good}
-use Rattle.exchange.proofs.Runs.{all-good}
+use Rattle.exchange.proofs.Runs.{nothing-left, all-good}
 use Rattle.exchange.proofs.Refused.{from-answer, from-fault, pass-runs}
 
 -- ---- a polygon at a place that is taken
@@ -30,10 +30,11 @@ to-closed s at room n r =
     let there = h .there in
     let is : length-at s at ≡ n = omega (arith, h .counted) in
     let twice : 2 * (n + 1) ≡ 2 * c = omega (arith, h .counted) in
-    let roomy : Roomy s at room = (
-    (((((omega arith, h .order), omega arith, h .three), omega arith, h .one), h .there, omega (arith, h .counted, h .least), omega (arith, h .counted, h .most)), omega (arith, h .counted, h .fits))
+    let good : GoodHead s at room = (
+      (((omega arith, h .order), omega arith, h .three), omega arith, h .one),
+      ((omega arith, omega (arith, h .counted, h .least), omega (arith, h .counted, h .most)), omega (arith, h .counted, h .fits)),
     ) in (
-      (roomy, all-good o s (2 * c) (at + 13) (r .fine ∙ ap (λ (k : ℕ). scanned k o s (at + 13)) twice)),
+      (good, all-good o s (2 * c) (at + 13) (r .fine ∙ ap (λ (k : ℕ). scanned k o s (at + 13)) twice)),
       r .same-x ∙ ap (λ (k : ℕ). gridAt o s (at + 13 + 16 * k)) (sym is),
       r .same-y ∙ ap (λ (k : ℕ). gridAt o s (at + 13 + 16 * k + 8)) (sym is),
     )
@@ -74,10 +75,7 @@ module _ (s : List ℕ) (room : ℕ) where
       (λ r. within n p (from-answer s 0 room r))
       (λ g r. ask-cases (ReadFault s room) (leb (length s) (end s 0)) 28 (end s 0) [] m r
       (λ f. left-over (closed-of g) (leb-false (length s) (end s 0) f))
-      (λ t r2. absurd (no-refusal r2)))
-    where
-      no-refusal : refused n p ≡ asked [] m → ⊥
-      no-refusal r = let z : gives m ≡ refused n p = sym (r ∙ sym (ends m refl)) in let q : _≡_ {A = ℕ} 0 1 = cc in absurd (omega arith)
+      (λ t r2. absurd (nothing-left m r2)))
 
   refused-from : {n p : ℕ} → ReadFault s room n p → refused n p ≡ read-answer s room
   refused-from (within n p f) = stops-first (polygon-asks s 0 room) last-question m m n p (from-fault s 0 room f) refl

@@ -1,8 +1,8 @@
--- A run of coordinates in plain logic: all are good, or the first bad one has its number and its place. Assumes nothing.
+-- A run of fields or shapes in plain logic: all are good, or the first bad one has its number and its place. Assumes nothing.
 use Prim.Native.Nat.{ℕ, zero, suc, _+_, _*_, _<_, _≤_, suc-le-suc, zero-le}
 use mathlib.Core.Path.{_≡_, refl, sym, ap, _∙_, subst}
 use mathlib.Core.Bool.{Bool, true, false}
-use mathlib.Core.List.{List}
+use mathlib.Core.List.{List, []}
 use native.Mathlib.Omega.{arith}
 use native.Mathlib.Nat.{le-of-suc-le-suc}
 use borrow.Author.Tests.{leb-true, leb-false}
@@ -10,13 +10,99 @@ use lib.Dec.{leb}
 use lib.ListN.{length}
 use Rattle.exchange.specs.declared.Coordinate.{Coordinate}
 use Rattle.exchange.specs.declared.Coordinate.the-variants.{Grid, OffGrid, NotFinite}
-use Rattle.exchange.specs.Answers.{Answer, gives, refused, asked}
+use Rattle.exchange.specs.Answers.{Question, Answer, gives, refused, asked}
 use Rattle.exchange.specs.Coordinates.{coordinateAt, refusalOf, onGrid}
-use Rattle.exchange.specs.Reading.{coordinates}
+use Rattle.exchange.specs.Reading.{run, coordinate-asks}
 use Rattle.exchange.specs.Refusals.{Good, Bad, cut, not-finite, off-grid}
-use Rattle.exchange.proofs.Asking.{ask-cases}
-use Rattle.exchange.proofs.Scanned.{scanned, cut-short, faulty-there, fine-there, no-more}
-use Rattle.exchange.proofs.Heads.{coordinate-passed}
+use Rattle.exchange.proofs.Asking.{fault, ask-cases, ends, passes-all, stops-first, part-cases}
+use Rattle.exchange.proofs.Scanned.{ran, ran-none, scanned, cut-short, faulty-there, fine-there, no-more}
+use Rattle.exchange.proofs.Heads.{passed-both, coordinate-passed}
+
+-- the end of a list of questions refuses nothing
+pub nothing-left : {A : Type 0} {n p : ℕ} (a : A) → refused n p ≡ asked [] a → ⊥
+nothing-left {A} {n} {p} a e = let z : gives a ≡ refused n p = sym (e ∙ sym (ends a refl)) in let q : _≡_ {A = ℕ} 0 1 = cc in absurd (omega arith)
+
+-- what is asked at a place says exactly whether what stands there is good, or with which number and place it is bad
+pub record Exact (asks : ℕ → List Question) (Fine : ℕ → Type 0) (Wrong : ℕ → ℕ → ℕ → Type 0) : Type 0 where
+  pub is-fine : (at : ℕ) → gives tt ≡ fault (asks at) → Fine at
+  pub fine-is : (at : ℕ) → Fine at → gives tt ≡ fault (asks at)
+  pub is-wrong : (at number place : ℕ) → refused number place ≡ fault (asks at) → Wrong at number place
+  pub wrong-is : (at number place : ℕ) → Wrong at number place → refused number place ≡ fault (asks at)
+
+-- the first fault of k things: the i-th is bad and those before it are good
+pub record FirstBad (step : ℕ) (Fine : ℕ → Type 0) (Wrong : ℕ → ℕ → ℕ → Type 0) (k at number place : ℕ) : Type 0 where
+  pub i : ℕ
+  pub within : i < k
+  pub before : (j : ℕ) → j < i → Fine (at + step * j)
+  pub bad : Wrong (at + step * i) number place
+
+module _ (step : ℕ) (asks : ℕ → List Question) (Fine : ℕ → Type 0) (Wrong : ℕ → ℕ → ℕ → Type 0) (exact : Exact asks Fine Wrong) where
+  -- the place i + 1 is place i of the rest
+  later : (at i : ℕ) → at + step + step * i ≡ at + step * suc i
+  later at i = omega arith
+
+  here : (at : ℕ) → at ≡ at + step * 0
+  here at = omega arith
+
+  fines : (k at : ℕ) → Fine at → ((j : ℕ) → j < k → Fine (at + step + step * j)) → (j : ℕ) → j < suc k → Fine (at + step * j)
+  fines k at g f zero l = subst Fine (here at) g
+  fines k at g f (suc j) l = subst Fine (later at j) (f j (le-of-suc-le-suc l))
+
+  first-fine : (k at : ℕ) → ((j : ℕ) → j < suc k → Fine (at + step * j)) → Fine at
+  first-fine k at f = subst Fine (sym (here at)) (f 0 (suc-le-suc zero-le))
+
+  rest-fine : (k at : ℕ) → ((j : ℕ) → j < suc k → Fine (at + step * j)) → (j : ℕ) → j < k → Fine (at + step + step * j)
+  rest-fine k at f j l = subst Fine (sym (later at j)) (f (suc j) (suc-le-suc l))
+
+  -- nothing stands against k of them: all are good
+  pub all-fine : (k at : ℕ) → gives tt ≡ ran step asks k at → (j : ℕ) → j < k → Fine (at + step * j)
+  unfolding run
+  all-fine zero at e j l = absurd (omega arith)
+  all-fine (suc k) at e j l =
+      let q = passed-both (asks at) (run step asks k (at + step)) tt tt e in
+      fines k at (exact .is-fine at (q .0)) (all-fine k (at + step) (q .1)) j l
+
+  pub fine-all : (k at : ℕ) → ((j : ℕ) → j < k → Fine (at + step * j)) → gives tt ≡ ran step asks k at
+  unfolding run
+  fine-all zero at f = ends tt refl
+  fine-all (suc k) at f =
+      passes-all (asks at) (run step asks k (at + step)) tt tt (exact .fine-is at (first-fine k at f)) (fine-all k (at + step) (rest-fine k at f))
+
+  bad-now : (k at number place : ℕ) → Wrong at number place → FirstBad step Fine Wrong (suc k) at number place
+  bad-now k at number place b = record {
+    i = 0;
+    within = suc-le-suc zero-le;
+    before = λ j l. absurd (omega arith);
+    bad = subst (λ (p : ℕ). Wrong p number place) (here at) b;
+  }
+
+  bad-later : (k at number place : ℕ) → Fine at → FirstBad step Fine Wrong k (at + step) number place → FirstBad step Fine Wrong (suc k) at number place
+  bad-later k at number place g f = record {
+    i = suc (f .i);
+    within = suc-le-suc (f .within);
+    before = fines (f .i) at g (f .before);
+    bad = subst (λ (p : ℕ). Wrong p number place) (later at (f .i)) (f .bad);
+  }
+
+  pub first-bad : (k at number place : ℕ) → refused number place ≡ ran step asks k at → FirstBad step Fine Wrong k at number place
+  unfolding run
+  first-bad zero at number place e = absurd (nothing-left tt e)
+  first-bad (suc k) at number place e =
+      part-cases (asks at) (run step asks k (at + step)) tt tt e
+      (λ r. bad-now k at number place (exact .is-wrong at number place r))
+      (λ g r. bad-later k at number place (exact .is-fine at g) (first-bad k (at + step) number place r))
+
+  pub bad-first : (i k at number place : ℕ) → i < k → ((j : ℕ) → j < i → Fine (at + step * j)) → Wrong (at + step * i) number place → refused number place ≡ ran step asks k at
+  unfolding run
+  bad-first i zero at number place l f b = absurd (omega arith)
+  bad-first zero (suc k) at number place l f b =
+      stops-first (asks at) (run step asks k (at + step)) tt tt number place
+      (exact .wrong-is at number place (subst (λ (p : ℕ). Wrong p number place) (sym (here at)) b)) refl
+  bad-first (suc i) (suc k) at number place l f b =
+      passes-all (asks at) (run step asks k (at + step)) tt tt (exact .fine-is at (first-fine i at f))
+      (bad-first i k (at + step) number place (le-of-suc-le-suc l) (rest-fine i at f) (subst (λ (p : ℕ). Wrong p number place) (sym (later at i)) b))
+
+-- ---- coordinates
 
 grid-is : (c : Coordinate) → onGrid c ≡ true → (g : ℕ) × (c ≡ Grid g)
 grid-is (Grid g) e = (g, refl)
@@ -28,85 +114,36 @@ bad-is order s at h (Grid g) e f = let z : _≡_ {A = ℕ} 0 1 = cc in absurd (o
 bad-is order s at h (OffGrid x) e f = off-grid h x e
 bad-is order s at h NotFinite e f = not-finite h e
 
--- where a list's place i + 1 is place i of the rest
+-- a bad coordinate is refused at its own place
+abbrev pub BadAt : ℕ → List ℕ → ℕ → ℕ → ℕ → Type 0
+BadAt order s at number place = Bad order s at number × (place ≡ at)
+
 module _ (order : ℕ) (s : List ℕ) where
-  later : (at i : ℕ) → at + 8 + 8 * i ≡ at + 8 * suc i
-  later at i = omega arith
+  one : (at : ℕ) → fault (coordinate-asks order s at) ≡ scanned 1 order s at
+  unfolding run
+  one at = refl
 
-  here : (at : ℕ) → at ≡ at + 8 * 0
-  here at = omega arith
+  coordinate-bad : (at number place : ℕ) → refused number place ≡ fault (coordinate-asks order s at) → BadAt order s at number place
+  coordinate-bad at number place e =
+      ask-cases (BadAt order s at) (leb (at + 8) (length s)) 20 at _ (tt {0}) e
+      (λ f. (cut (leb-false (at + 8) (length s) f), refl))
+      (λ t r.
+      ask-cases (BadAt order s at) (onGrid (coordinateAt order s at)) (refusalOf (coordinateAt order s at)) at [] (tt {0}) r
+      (λ f. (bad-is order s at (leb-true (at + 8) (length s) t) (coordinateAt order s at) refl f, refl))
+      (λ t2 r2. absurd (nothing-left (tt {0}) r2)))
 
-  goods : (k at : ℕ) → Good order s at → ((j : ℕ) → j < k → Good order s (at + 8 + 8 * j)) → (j : ℕ) → j < suc k → Good order s (at + 8 * j)
-  goods k at g f zero l = subst (Good order s) (here at) g
-  goods k at g f (suc j) l = subst (Good order s) (later at j) (f j (le-of-suc-le-suc l))
+  bad-answer : (at : ℕ) {number : ℕ} → Bad order s at number → refused number at ≡ scanned 1 order s at
+  bad-answer at (cut h) = cut-short 0 order s at tt h refl
+  bad-answer at (not-finite h e) = faulty-there 0 order s at tt h (sym (ap refusalOf e)) (λ z. absurd (omega arith)) refl
+  bad-answer at (off-grid h x e) = faulty-there 0 order s at tt h (sym (ap refusalOf e)) (λ z. absurd (omega arith)) refl
 
-  -- nothing stands against k coordinates: all are good
+  pub coordinate-exact : Exact (coordinate-asks order s) (Good order s) (BadAt order s)
+  coordinate-exact = record {
+    is-fine = λ at e. let c = coordinate-passed 0 order s at tt (e ∙ one at) in (c .0, grid-is (coordinateAt order s at) (c .1));
+    fine-is = λ at g. fine-there 0 order s at tt (g .0) (sym (ap refusalOf (g .1 .1))) refl (no-more order s (at + 8) tt refl) ∙ sym (one at);
+    is-wrong = coordinate-bad;
+    wrong-is = λ at number place b. ap (refused number) (b .1) ∙ bad-answer at (b .0) ∙ sym (one at);
+  }
+
   pub all-good : (k at : ℕ) → gives tt ≡ scanned k order s at → (j : ℕ) → j < k → Good order s (at + 8 * j)
-  all-good zero at e j l = absurd (omega arith)
-  all-good (suc k) at e j l =
-      let c = coordinate-passed k order s at tt e in
-      goods k at (c .0, grid-is (coordinateAt order s at) (c .1)) (all-good k (at + 8) (c .2)) j l
-
-  first-good : (k at : ℕ) → ((j : ℕ) → j < suc k → Good order s (at + 8 * j)) → Good order s at
-  first-good k at f = subst (Good order s) (sym (here at)) (f 0 (suc-le-suc zero-le))
-
-  rest-good : (k at : ℕ) → ((j : ℕ) → j < suc k → Good order s (at + 8 * j)) → (j : ℕ) → j < k → Good order s (at + 8 + 8 * j)
-  rest-good k at f j l = subst (Good order s) (sym (later at j)) (f (suc j) (suc-le-suc l))
-
-  pub good-all : (k at : ℕ) → ((j : ℕ) → j < k → Good order s (at + 8 * j)) → gives tt ≡ scanned k order s at
-  good-all zero at f = no-more order s at tt refl
-  good-all (suc k) at f =
-      let g = first-good k at f in
-      fine-there k order s at tt (g .0) (sym (ap refusalOf (g .1 .1))) refl (good-all k (at + 8) (rest-good k at f))
-
-  -- the first fault of k coordinates: the i-th is bad and those before it are good
-  pub record FirstBad (k at number place : ℕ) : Type 0 where
-    pub i : ℕ
-    pub within : i < k
-    pub before : (j : ℕ) → j < i → Good order s (at + 8 * j)
-    pub bad : Bad order s (at + 8 * i) number
-    pub there : place ≡ at + 8 * i
-
-  bad-now : (k at number : ℕ) → Bad order s at number → FirstBad (suc k) at number at
-  bad-now k at number b = record {
-    i = 0;
-    within = suc-le-suc zero-le;
-    before = λ j l. absurd (omega arith);
-    bad = subst (λ (p : ℕ). Bad order s p number) (here at) b;
-    there = here at;
-  }
-
-  bad-later : (k at number place : ℕ) → Good order s at → FirstBad k (at + 8) number place → FirstBad (suc k) at number place
-  bad-later k at number place g f = record {
-    i = suc (f .i);
-    within = suc-le-suc (f .within);
-    before = goods (f .i) at g (f .before);
-    bad = subst (λ (p : ℕ). Bad order s p number) (later at (f .i)) (f .bad);
-    there = f .there ∙ later at (f .i);
-  }
-
-  pub first-bad : (k at number place : ℕ) → refused number place ≡ scanned k order s at → FirstBad k at number place
-  unfolding coordinates
-  first-bad zero at number place e = let z : gives tt ≡ refused number place = sym (e ∙ sym (no-more order s at tt refl)) in let q : _≡_ {A = ℕ} 0 1 = cc in absurd (omega arith)
-  first-bad (suc k) at number place e =
-      ask-cases (λ (n p : ℕ). FirstBad (suc k) at n p) (leb (at + 8) (length s)) 20 at _ tt e
-      (λ f. bad-now k at 20 (cut (leb-false (at + 8) (length s) f)))
-      (λ t e2.
-      let h : at + 8 ≤ length s = leb-true (at + 8) (length s) t in
-      ask-cases (λ (n p : ℕ). FirstBad (suc k) at n p) (onGrid (coordinateAt order s at)) (refusalOf (coordinateAt order s at)) at (coordinates k order s (at + 8)) tt e2
-      (λ f. bad-now k at (refusalOf (coordinateAt order s at)) (bad-is order s at h (coordinateAt order s at) refl f))
-      (λ t2 e3. bad-later k at number place (h, grid-is (coordinateAt order s at) t2) (first-bad k (at + 8) number place e3)))
-
-  bad-answer : (k at : ℕ) {number : ℕ} → Bad order s at number → refused number at ≡ scanned (suc k) order s at
-  bad-answer k at (cut h) = cut-short k order s at tt h refl
-  bad-answer k at (not-finite h e) = faulty-there k order s at tt h (sym (ap refusalOf e)) (λ z. absurd (omega arith)) refl
-  bad-answer k at (off-grid h x e) = faulty-there k order s at tt h (sym (ap refusalOf e)) (λ z. absurd (omega arith)) refl
-
-  pub bad-first : (i k at number : ℕ) → i < k → ((j : ℕ) → j < i → Good order s (at + 8 * j)) → Bad order s (at + 8 * i) number → refused number (at + 8 * i) ≡ scanned k order s at
-  bad-first i zero at number l f b = absurd (omega arith)
-  bad-first zero (suc k) at number l f b =
-      ap (refused number) (sym (here at)) ∙ bad-answer k at (subst (λ (p : ℕ). Bad order s p number) (sym (here at)) b)
-  bad-first (suc i) (suc k) at number l f b =
-      let g = first-good i at f in
-      let r = bad-first i k (at + 8) number (le-of-suc-le-suc l) (rest-good i at f) (subst (λ (p : ℕ). Bad order s p number) (sym (later at i)) b) in
-      fine-there k order s at tt (g .0) (sym (ap refusalOf (g .1 .1))) refl (ap (refused number) (sym (later at i)) ∙ r)
+  all-good = all-fine 8 (coordinate-asks order s) (Good order s) (BadAt order s) coordinate-exact

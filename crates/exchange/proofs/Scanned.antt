@@ -7,15 +7,16 @@ use native.Mathlib.Omega.{arith}
 use native.Mathlib.Nat.{add-assoc}
 use borrow.Author.Needs.{needs}
 use lib.Dec.{leb}
-use lib.ListN.{length, set, length-set}
+use lib.ListN.{length, drop, set}
 use lib.Seq.{sets}
 use lib.Ieee.{Float}
+use Rattle.laws.proofs.Put.{put-front}
 use Rattle.exchange.specs.declared.Coordinate.{Coordinate}
 use Rattle.exchange.specs.declared.Coordinate.the-variants.{Grid, OffGrid, NotFinite}
-use Rattle.exchange.specs.Answers.{Question, must, Answer, gives, refused, asked}
+use Rattle.exchange.specs.Answers.{Question, must, Answer, gives, refused, asked, over}
 use Rattle.exchange.specs.Coordinates.{coordinate, floatAt, coordinateAt, refusalOf, gridOf, onGrid, gridAt}
-use Rattle.exchange.specs.Reading.{coordinates, grids}
-use Rattle.exchange.proofs.Asking.{stops, passes, stops-above, passes-below, ends, asked-both, andThen}
+use Rattle.exchange.specs.Reading.{run, row, coordinate-asks, coordinates}
+use Rattle.exchange.proofs.Asking.{stops, passes, stops-above, passes-below, ends, asked-both, andThen, fault}
 
 -- a coordinate is on the grid just where nothing is its refusal
 on-grid : (c : Coordinate) → refusalOf c ≡ 0 → onGrid c ≡ true
@@ -32,15 +33,15 @@ off-grid NotFinite f = refl
 
 module _ {A : Type 0} {x : Answer A} (k order : ℕ) (s : List ℕ) (at : ℕ) (a : A) where
   pub cut-short : length s < at + 8 → x ≡ refused 20 at → x ≡ asked (coordinates (suc k) order s at) a
-  unfolding coordinates
+  unfolding run
   cut-short h e = stops-above _ _ _ _ _ _ h e
 
   pub faulty-there : {n : ℕ} → at + 8 ≤ length s → n ≡ refusalOf (coordinateAt order s at) → (n ≡ 0 → ⊥) → x ≡ refused n at → x ≡ asked (coordinates (suc k) order s at) a
-  unfolding coordinates
+  unfolding run
   faulty-there h q f e = passes-below _ _ _ _ _ _ h (stops _ _ _ _ _ (off-grid (coordinateAt order s at) (λ z. f (q ∙ z))) (e ∙ ap (λ (m : ℕ). refused m at) q))
 
   pub fine-there : {n : ℕ} → at + 8 ≤ length s → n ≡ refusalOf (coordinateAt order s at) → n ≡ 0 → x ≡ asked (coordinates k order s (at + 8)) a → x ≡ asked (coordinates (suc k) order s at) a
-  unfolding coordinates
+  unfolding run
   fine-there h q z e = passes-below _ _ _ _ _ _ h (passes _ _ _ _ _ (on-grid (coordinateAt order s at) (sym q ∙ z)) e)
 
 -- what a call found by judging the float there
@@ -51,61 +52,92 @@ pub found-at : {n : ℕ} {c : Coordinate} (order : ℕ) (s : List ℕ) (at : ℕ
 found-at order s at e f = e ∙ ap refusalOf f
 
 pub no-more : {A : Type 0} {x : Answer A} (order : ℕ) (s : List ℕ) (at : ℕ) (a : A) → x ≡ gives a → x ≡ asked (coordinates 0 order s at) a
-unfolding coordinates
+unfolding run
 no-more order s at a e = ends a e
 
--- ---- positions: two coordinates at a time
+-- ---- one after another: nothing, or the first fault
 
+abbrev pub ran : ℕ → (ℕ → List Question) → ℕ → ℕ → Answer (Unit {0})
+ran step asks k at = fault (run step asks k at)
+
+abbrev pub scanned : ℕ → ℕ → List ℕ → ℕ → Answer (Unit {0})
+scanned k order s at = ran 8 (coordinate-asks order s) k at
+
+module _ (step : ℕ) (asks : ℕ → List Question) where
+  pub ran-next : (k at : ℕ) → ran step asks (suc k) at ≡ andThen (fault (asks at)) (ran step asks k (at + step))
+  unfolding run
+  ran-next k at = asked-both (asks at) (run step asks k (at + step)) (tt {0}) (tt {0})
+
+  pub ran-none : (at : ℕ) → gives tt ≡ ran step asks 0 at
+  unfolding run
+  ran-none at = ends tt refl
+
+  -- a turn of a loop over n of them: the i-th stands at `at`
+  module _ (n i at : ℕ) (h : i < n) where
+    turn : ran step asks (n - i) at ≡ andThen (fault (asks at)) (ran step asks (n - (i + 1)) (at + step))
+    turn =
+        let e : n - i ≡ suc (n - (i + 1)) = omega arith in
+        ap (λ (k : ℕ). ran step asks k at) e ∙ ran-next (n - (i + 1)) at
+
+    pub stop : (k p : ℕ) → refused k p ≡ fault (asks at) → refused k p ≡ ran step asks (n - i) at
+    stop k p e = sym (turn ∙ ap (λ (f : Answer (Unit {0})). andThen f (ran step asks (n - (i + 1)) (at + step))) (sym e))
+
+    pub go-on : gives tt ≡ fault (asks at) → ran step asks (n - (i + 1)) (at + step) ≡ ran step asks (n - i) at
+    go-on e = sym (turn ∙ ap (λ (f : Answer (Unit {0})). andThen f (ran step asks (n - (i + 1)) (at + step))) (sym e))
+
+  pub ran-end : (n i at : ℕ) → n ≤ i → gives tt ≡ ran step asks (n - i) at
+  ran-end n i at h =
+      let e : 0 ≡ n - i = omega arith in
+      ran-none at ∙ ap (λ (k : ℕ). ran step asks k at) e
+
+-- positions are coordinates, two at a time
 two-more : (k order : ℕ) (s : List ℕ) (at : ℕ) → coordinates (suc (suc k)) order s at ≡ coordinates 2 order s at ++ coordinates k order s (at + 16)
-unfolding coordinates
+unfolding run
 two-more k order s at = ap (λ (n : ℕ). coordinates 2 order s at ++ coordinates k order s n) (add-assoc at 8 8)
 
--- nothing, or the first fault
-abbrev pub scanned : ℕ → ℕ → List ℕ → ℕ → Answer (Unit {0})
-scanned k order s at = asked (coordinates k order s at) tt
+pub positions-asked : (n order : ℕ) (s : List ℕ) (at : ℕ) → run 16 (coordinates 2 order s) n at ≡ coordinates (2 * n) order s at
+unfolding run
+positions-asked zero order s at = refl
+positions-asked (suc n) order s at =
+    let e : suc (suc (2 * n)) ≡ 2 * suc n = omega arith in
+    ap (λ (qs : List Question). coordinates 2 order s at ++ qs) (positions-asked n order s (at + 16))
+    ∙ sym (two-more (2 * n) order s at) ∙ ap (λ (k : ℕ). coordinates k order s at) e
 
-module _ (n i order : ℕ) (s : List ℕ) (at : ℕ) (h : i < n) where
-  next-asked : scanned (2 * (n - i)) order s at ≡ andThen (scanned 2 order s at) (scanned (2 * (n - (i + 1))) order s (at + 16))
-  next-asked =
-      let e : 2 * (n - i) ≡ suc (suc (2 * (n - (i + 1)))) = omega arith in
-      ap (λ (k : ℕ). scanned k order s at) e
-      ∙ ap (λ (qs : List Question). asked qs tt) (two-more (2 * (n - (i + 1))) order s at)
-      ∙ asked-both (coordinates 2 order s at) (coordinates (2 * (n - (i + 1))) order s (at + 16)) tt tt
+-- ---- the numbers that stand one after another
 
-  pub stop : (k p : ℕ) → refused k p ≡ scanned 2 order s at → refused k p ≡ scanned (2 * (n - i)) order s at
-  stop k p e = sym (next-asked ∙ ap (λ (f : Answer (Unit {0})). andThen f (scanned (2 * (n - (i + 1))) order s (at + 16))) (sym e))
+module _ (step : ℕ) (number : ℕ → ℕ) where
+  pub row-length : (k at : ℕ) → length (row step number k at) ≡ k
+  unfolding row
+  row-length zero at = refl
+  row-length (suc k) at = ap suc (row-length k (at + step))
 
-  pub go-on : gives tt ≡ scanned 2 order s at → scanned (2 * (n - (i + 1))) order s (at + 16) ≡ scanned (2 * (n - i)) order s at
-  go-on e = sym (next-asked ∙ ap (λ (f : Answer (Unit {0})). andThen f (scanned (2 * (n - (i + 1))) order s (at + 16))) (sym e))
+  row-next : (k at : ℕ) → row step number (suc k) at ≡ number at ∷ row step number k (at + step)
+  unfolding row
+  row-next k at = refl
 
-  next-grid : grids (n - i) order s at ≡ gridAt order s at ∷ grids (n - (i + 1)) order s (at + 16)
-  unfolding grids
-  next-grid =
-      let e : n - i ≡ suc (n - (i + 1)) = omega arith in
-      ap (λ (k : ℕ). grids k order s at) e
+  row-none : (at : ℕ) → row step number 0 at ≡ []
+  unfolding row
+  row-none at = refl
 
-  pub fill-step : (l : List ℕ) (g : ℕ) → g ≡ gridAt order s at
-      → sets (set l i g) (i + 1) (grids (n - (i + 1)) order s (at + 16)) ≡ sets l i (grids (n - i) order s at)
-  fill-step l g e =
+  -- a turn of a loop that puts n of them into a list
+  pub fill-step : (n i at : ℕ) → i < n → (l next : List ℕ) → next ≡ set l i (number at)
+      → sets next (i + 1) (row step number (n - (i + 1)) (at + step)) ≡ sets l i (row step number (n - i) at)
+  fill-step n i at h l next e =
       let one : i + 1 ≡ suc i = omega arith in
-      let gs : List ℕ = grids (n - (i + 1)) order s (at + 16) in
-      ap (λ (k : ℕ). sets (set l i g) k gs) one ∙ ap (λ (v : ℕ). sets l i (v ∷ gs)) e ∙ ap (sets l i) (sym next-grid)
+      let k : n - i ≡ suc (n - (i + 1)) = omega arith in
+      let more : List ℕ = row step number (n - (i + 1)) (at + step) in
+      ap (λ (m : ℕ). sets next m more) one ∙ ap (λ (v : List ℕ). sets v (suc i) more) e
+      ∙ ap (sets l i) (sym (ap (λ (m : ℕ). row step number m at) k ∙ row-next (n - (i + 1)) at))
 
-no-grids : (order : ℕ) (s : List ℕ) (at : ℕ) → grids 0 order s at ≡ []
-unfolding grids
-no-grids order s at = refl
+  pub fill-end : (n i at : ℕ) → n ≤ i → (l : List ℕ) → l ≡ sets l i (row step number (n - i) at)
+  fill-end n i at h l =
+      let e : 0 ≡ n - i = omega arith in
+      ap (sets l i) (sym (row-none at) ∙ ap (λ (k : ℕ). row step number k at) e)
 
-pub grids-length : (k order : ℕ) (s : List ℕ) (at : ℕ) → length (grids k order s at) ≡ k
-unfolding grids
-grids-length zero order s at = refl
-grids-length (suc k) order s at = ap suc (grids-length k order s (at + 16))
-
-pub fill-end : (n i order : ℕ) (s : List ℕ) (at : ℕ) → n ≤ i → (l : List ℕ) → l ≡ sets l i (grids (n - i) order s at)
-fill-end n i order s at h l =
-    let e : 0 ≡ n - i = omega arith in
-    ap (sets l i) (sym (no-grids order s at) ∙ ap (λ (k : ℕ). grids k order s at) e)
-
-pub scan-end : (n i order : ℕ) (s : List ℕ) (at : ℕ) → n ≤ i → gives tt ≡ scanned (2 * (n - i)) order s at
-scan-end n i order s at h =
-    let e : 0 ≡ 2 * (n - i) = omega arith in
-    no-more order s at tt refl ∙ ap (λ (k : ℕ). scanned k order s at) e
+  -- a list that n of them were put into: it has them in front, and past them stays
+  pub filled-row : (n m at : ℕ) → n ≡ m → (old new : List ℕ) → n ≤ length old → new ≡ sets old 0 (row step number n at)
+      → new ≡ over (gives n) (row step number m at) old
+  filled-row n m at is old new h e =
+      let l : length (row step number n at) ≡ n = row-length n at in
+      e ∙ put-front (row step number n at) old (omega arith)
+      ∙ ap (λ (k : ℕ). row step number k at ++ drop (length (row step number k at)) old) is

@@ -10,12 +10,15 @@ use Rattle.exchange.specs.declared.Written.{Written}
 use Rattle.exchange.specs.declared.Written.the-variants.{Bytes, Refused}
 use Rattle.exchange.specs.declared.Reading.{Reading}
 use Rattle.exchange.specs.declared.Reading.the-variants.{Ring, Refused as Unread}
+use Rattle.exchange.specs.declared.Surveyed.{Surveyed}
+use Rattle.exchange.specs.declared.Surveyed.the-variants.{Points, Refused as Unsurveyed}
 use Rattle.exchange.specs.declared.Judged.{Judged}
 use Rattle.exchange.specs.declared.Judged.the-variants.{As, Refused as Unjudged}
-use Rattle.exchange.specs.Answers.{Answer, gives, refused, refusal, written, reading, judged, over}
+use Rattle.exchange.specs.Answers.{Answer, gives, refused, refusal, written, reading, surveyed, judged, over}
 use Rattle.exchange.specs.Coordinates.{judgement}
 use Rattle.exchange.specs.Writing.{polygon, writing}
 use Rattle.exchange.specs.Reading.{read-answer, xs-at, ys-at}
+use Rattle.exchange.specs.Points.{points-answer, points-xs, points-ys, sent-answer}
 
 -- an answer's number and values tell which case it is
 same-refusal : {A : Type 0} (a b : Refusal) → refusal {A = A} a ≡ refusal b → a ≡ b
@@ -36,6 +39,12 @@ same-reading (Ring n) (Unread b) e = let z : _≡_ {A = ℕ} 0 1 = cc in absurd 
 same-reading (Unread a) (Ring m) e = let z : _≡_ {A = ℕ} 0 1 = cc in absurd (omega arith)
 same-reading (Unread a) (Unread b) e = ap Unread (same-refusal a b e)
 
+same-surveyed : (r t : Surveyed) → surveyed r ≡ surveyed t → r ≡ t
+same-surveyed (Points n) (Points m) e = cc
+same-surveyed (Points n) (Unsurveyed b) e = let z : _≡_ {A = ℕ} 0 1 = cc in absurd (omega arith)
+same-surveyed (Unsurveyed a) (Points m) e = let z : _≡_ {A = ℕ} 0 1 = cc in absurd (omega arith)
+same-surveyed (Unsurveyed a) (Unsurveyed b) e = ap Unsurveyed (same-refusal a b e)
+
 same-judged : (r t : Judged) → judged r ≡ judged t → r ≡ t
 same-judged (As c) (As d) e = cc
 same-judged (As c) (Unjudged b) e = let z : _≡_ {A = ℕ} 0 1 = cc in absurd (omega arith)
@@ -52,6 +61,11 @@ pub record Reads (block xs ys : List ℕ) (r : Reading) (xs-after ys-after : Lis
   pub list-x : xs-after ≡ over (reading r) (xs-at block 0) xs
   pub list-y : ys-after ≡ over (reading r) (ys-at block 0) ys
 
+pub record Surveys (block xs ys : List ℕ) (r : Surveyed) (xs-after ys-after : List ℕ) : Type 0 where
+  pub answer : surveyed r ≡ points-answer block (min (length xs) (length ys))
+  pub list-x : xs-after ≡ over (surveyed r) (points-xs block) xs
+  pub list-y : ys-after ≡ over (surveyed r) (points-ys block) ys
+
 pub write-unique : (xs ys out : List ℕ) (r t : Written) (o p : List ℕ) → Writes xs ys out r o → Writes xs ys out t p → (r ≡ t) × (o ≡ p)
 write-unique xs ys out r t o p a b =
     let same : r ≡ t = same-written r t (a .answer ∙ sym (b .answer)) in
@@ -67,3 +81,14 @@ read-unique block xs ys r t x y u v a b =
 
 pub judge-unique : (block : List ℕ) (order place : ℕ) (r t : Judged) → judged r ≡ judgement block order place → judged t ≡ judgement block order place → r ≡ t
 judge-unique block order place r t a b = same-judged r t (a ∙ sym b)
+
+pub points-unique : (block xs ys : List ℕ) (r t : Surveyed) (x y u v : List ℕ) → Surveys block xs ys r x y → Surveys block xs ys t u v → (r ≡ t) × (x ≡ u) × (y ≡ v)
+points-unique block xs ys r t x y u v a b =
+    let same : r ≡ t = same-surveyed r t (a .answer ∙ sym (b .answer)) in (
+      same,
+      a .list-x ∙ ap (λ (w : Surveyed). over (surveyed w) (points-xs block) xs) same ∙ sym (b .list-x),
+      a .list-y ∙ ap (λ (w : Surveyed). over (surveyed w) (points-ys block) ys) same ∙ sym (b .list-y),
+    )
+
+pub sent-unique : (block : List ℕ) (place : ℕ) (r t : Judged) → judged r ≡ sent-answer block place → judged t ≡ sent-answer block place → r ≡ t
+sent-unique block place r t a b = same-judged r t (a ∙ sym b)

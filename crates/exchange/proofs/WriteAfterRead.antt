@@ -15,9 +15,9 @@ use Rattle.exchange.specs.Answers.{Answer, gives, asked, over, must}
 use Rattle.exchange.specs.Coordinates.{encode, coordinateAt, onGrid, gridOf, gridAt}
 use Rattle.exchange.specs.Bytes.{inOrder, numberAt}
 use Rattle.exchange.specs.Writing.{position, positions, around, head, polygon, low, size, writing}
-use Rattle.exchange.specs.Reading.{grids, count, order-at, length-at, xs-at, ys-at, polygon-asks, end, read-answer}
+use Rattle.exchange.specs.Reading.{row, grids, count, order-at, length-at, xs-at, ys-at, polygon-asks, end, read-answer}
 use Rattle.exchange.proofs.Judgements.{encode-judge}
-use Rattle.exchange.proofs.Scanned.{scanned, grids-length}
+use Rattle.exchange.proofs.Scanned.{scanned, row-length}
 use Rattle.exchange.proofs.Lengths.{polygon-length}
 use Rattle.exchange.proofs.Words.{Octets, word-lt, word-of}
 use Rattle.exchange.proofs.Lows.{low-more, low-none, low-front, grids-around}
@@ -40,7 +40,7 @@ module _ (order : ℕ) (s : List ℕ) (oct : Octets s) where
 
   positions-of : (k at : ℕ) → gives tt ≡ scanned (2 * k) order s at
       → (drop at s ≡ positions order (grids k order s at) (grids k order s (at + 8)) ++ drop (at + 16 * k) s) × (low (grids k order s at) ≡ true) × (low (grids k order s (at + 8)) ≡ true)
-  unfolding grids positions
+  unfolding row positions
   positions-of zero at e =
       let p : at ≡ at + 16 * 0 = omega arith in
       (ap (λ (n : ℕ). drop n s) p, low-none, low-none)
@@ -92,10 +92,10 @@ module _ (s : List ℕ) (oct : Octets s) (at room n : ℕ) (r : Ringed s at room
   y-is = ap (λ (k : ℕ). grids k o s (at + 13 + 8)) is-length
 
   pub x-long : length x ≡ n
-  x-long = grids-length (length-at s at) o s (at + 13) ∙ is-length
+  x-long = row-length 16 (gridAt o s) (length-at s at) (at + 13) ∙ is-length
 
   y-long : length y ≡ n
-  y-long = grids-length (length-at s at) o s (at + 13 + 8) ∙ is-length
+  y-long = row-length 16 (gridAt o s) (length-at s at) (at + 13 + 8) ∙ is-length
 
   around-x : grids (n + 1) o s (at + 13) ≡ around x
   around-x = grids-around n o s (at + 13) (omega (arith, h .least)) (r .same-x) ∙ ap around (sym x-is)

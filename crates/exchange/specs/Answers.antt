@@ -1,4 +1,4 @@
--- Document 01, 'Refusal numbers' and 'Polygon bytes': what is asked of an input, in order, what is answered, and what stands in lent memory
+-- Document 01, 'Refusal numbers' and 'Polygon bytes', and document 02, 1/13: what is asked of an input, in order, what is answered, and what stands in lent memory
 -- afterwards. Assumes nothing.
 use Prim.Native.Nat.{ℕ}
 use mathlib.Core.Bool.{Bool, cond}
@@ -10,6 +10,8 @@ use Rattle.exchange.specs.declared.Written.{Written}
 use Rattle.exchange.specs.declared.Written.the-variants.{Bytes, Refused}
 use Rattle.exchange.specs.declared.Reading.{Reading}
 use Rattle.exchange.specs.declared.Reading.the-variants.{Ring, Refused as Unread}
+use Rattle.exchange.specs.declared.Surveyed.{Surveyed}
+use Rattle.exchange.specs.declared.Surveyed.the-variants.{Points, Refused as Unsurveyed}
 use Rattle.exchange.specs.declared.Judged.{Judged}
 use Rattle.exchange.specs.declared.Judged.the-variants.{As, Refused as Unjudged}
 use Rattle.exchange.specs.declared.reader.Fault.{Fault}
@@ -53,6 +55,11 @@ written (Refused r) = refusal r
 abbrev pub reading : Reading → Answer ℕ
 reading (Ring n) = gives n
 reading (Unread r) = refusal r
+
+-- the count of points
+abbrev pub surveyed : Surveyed → Answer ℕ
+surveyed (Points n) = gives n
+surveyed (Unsurveyed r) = refusal r
 
 -- the coordinate that stands there
 abbrev pub judged : Judged → Answer Coordinate

@@ -4,4 +4,6 @@ pub mod Bytes
 pub mod Coordinates
 pub mod Writing
 pub mod Reading
+pub mod Points
 pub mod Refusals
+pub mod PointRefusals

@@ -8,40 +8,63 @@ use Rattle.exchange.specs.Answers.{Question, must, Answer, asked}
 use Rattle.exchange.specs.Bytes.{numberAt}
 use Rattle.exchange.specs.Coordinates.{coordinateAt, refusalOf, onGrid, gridAt, whole}
 
--- ---- coordinates
+-- ---- one after another
+
+-- what is asked of k fields or shapes, one in each `step` bytes from a place on
+unfoldable pub run : ℕ → (ℕ → List Question) → ℕ → ℕ → List Question
+run step asks zero at = []
+run step asks (suc k) at = asks at ++ run step asks k (at + step)
+
+-- the k numbers that stand so
+unfoldable pub row : ℕ → (ℕ → ℕ) → ℕ → ℕ → List ℕ
+row step number zero at = []
+row step number (suc k) at = number at ∷ row step number k (at + step)
+
+abbrev pub coordinate-asks : ℕ → List ℕ → ℕ → List Question
+coordinate-asks order s at = whole 8 s at ∷ must (onGrid (coordinateAt order s at)) (refusalOf (coordinateAt order s at)) at ∷ []
 
 -- x, y, x, y, ..: k coordinates, each in eight bytes from a place on
-unfoldable pub coordinates : ℕ → ℕ → List ℕ → ℕ → List Question
-coordinates zero order s at = []
-coordinates (suc k) order s at =
-    whole 8 s at
-    ∷ must (onGrid (coordinateAt order s at)) (refusalOf (coordinateAt order s at)) at
-    ∷ coordinates k order s (at + 8)
+abbrev pub coordinates : ℕ → ℕ → List ℕ → ℕ → List Question
+coordinates k order s at = run 8 (coordinate-asks order s) k at
 
 -- the grid numbers of k coordinates, one in each sixteen bytes from a place on
-unfoldable pub grids : ℕ → ℕ → List ℕ → ℕ → List ℕ
-grids zero order s at = []
-grids (suc k) order s at = gridAt order s at ∷ grids k order s (at + 16)
+abbrev pub grids : ℕ → ℕ → List ℕ → ℕ → List ℕ
+grids k order s at = row 16 (gridAt order s) k at
 
--- ---- a polygon of one ring that begins at a place
+-- ---- what a shape begins with
 
--- the count of positions
+-- a count of 3 to 1,024, and one more where the first position is repeated last; for lists that both have so much room
+abbrev pub size-asks : ℕ → ℕ → List ℕ → ℕ → ℕ → List Question
+size-asks repeated order s at room =
+    whole 4 s at
+    ∷ must (leb (3 + repeated) (numberAt 4 order s at) && leb (numberAt 4 order s at) (1024 + repeated)) 24 at
+    ∷ must (leb (numberAt 4 order s at - repeated) room) 29 at
+    ∷ []
+
+-- the count of rings, and of positions
 abbrev pub count : ℕ → List ℕ → ℕ → ℕ
 count order s at = numberAt 4 order s (at + 9)
 
--- the counts of rings and of positions, for lists that both have so much room
 abbrev pub count-asks : ℕ → List ℕ → ℕ → ℕ → List Question
 count-asks order s at room =
     whole 4 s (at + 5)
     ∷ must (eqb (numberAt 4 order s (at + 5)) 1) 23 (at + 5)
-    ∷ whole 4 s (at + 9)
-    ∷ must (leb 4 (count order s at) && leb (count order s at) 1025) 24 (at + 9)
-    ∷ must (leb (count order s at - 1) room) 29 (at + 9)
-    ∷ []
+    ∷ size-asks 1 order s (at + 9) room
 
 module _ (s : List ℕ) (at : ℕ) where
   abbrev pub order-at : ℕ
   order-at = getD s at 0
+
+  -- the byte order, and the type, which is refused with a number where it is another than this
+  abbrev pub type-asks : ℕ → ℕ → List Question
+  type-asks type number =
+      whole 1 s at
+      ∷ must (leb order-at 1) 21 at
+      ∷ whole 4 s (at + 1)
+      ∷ must (eqb (numberAt 4 order-at s (at + 1)) type) number (at + 1)
+      ∷ []
+
+  -- ---- a polygon of one ring that begins at a place
 
   -- the ring's length: the repeated position is left out
   abbrev pub length-at : ℕ
@@ -58,12 +81,7 @@ module _ (s : List ℕ) (at : ℕ) where
   end = first + 16 * count order-at s at
 
   abbrev pub head-asks : ℕ → List Question
-  head-asks room =
-      whole 1 s at
-      ∷ must (leb order-at 1) 21 at
-      ∷ whole 4 s (at + 1)
-      ∷ must (eqb (numberAt 4 order-at s (at + 1)) 3) 22 (at + 1)
-      ∷ count-asks order-at s at room
+  head-asks room = type-asks 3 22 ++ count-asks order-at s at room
 
   -- the last position is the first
   abbrev pub closes : Question

@@ -24,28 +24,48 @@ pub data Bad (order : ℕ) (s : List ℕ) (at : ℕ) : ℕ → Type 0 where
   not-finite : at + 8 ≤ length s → coordinateAt order s at ≡ NotFinite → Bad order s at 25
   off-grid : at + 8 ≤ length s → (x : Float) → coordinateAt order s at ≡ OffGrid x → Bad order s at 26
 
--- ---- a polygon that begins at a place, field by field: each stage holds where all before it do
+-- ---- what a shape begins with: each stage holds where all before it do
 
 module _ (s : List ℕ) (at : ℕ) where
   abbrev pub Ordered : Type 0
   Ordered = (at + 1 ≤ length s) × (order-at s at ≤ 1)
 
-  abbrev pub Typed : Type 0
-  Typed = Ordered × (at + 5 ≤ length s) × (numberAt 4 (order-at s at) s (at + 1) ≡ 3)
+  abbrev pub Typed : ℕ → Type 0
+  Typed type = Ordered × (at + 5 ≤ length s) × (numberAt 4 (order-at s at) s (at + 1) ≡ type)
 
+-- the number and the place of the first fault of a byte order and a type
+pub data TypeFault (s : List ℕ) (at type number : ℕ) : ℕ → ℕ → Type 0 where
+  no-order : length s < at + 1 → TypeFault s at type number 20 at
+  other-order : at + 1 ≤ length s → 1 < order-at s at → TypeFault s at type number 21 at
+  no-type : Ordered s at → length s < at + 5 → TypeFault s at type number 20 (at + 1)
+  other-type : Ordered s at → at + 5 ≤ length s → (numberAt 4 (order-at s at) s (at + 1) ≡ type → ⊥) → TypeFault s at type number number (at + 1)
+
+-- a count in bounds
+abbrev pub Counted : ℕ → ℕ → List ℕ → ℕ → Type 0
+Counted repeated order s at = (at + 4 ≤ length s) × (3 + repeated ≤ numberAt 4 order s at) × (numberAt 4 order s at ≤ 1024 + repeated)
+
+-- ... that the lists have room for
+abbrev pub Roomy : ℕ → ℕ → List ℕ → ℕ → ℕ → Type 0
+Roomy repeated order s at room = Counted repeated order s at × (numberAt 4 order s at - repeated ≤ room)
+
+pub data SizeFault (repeated order : ℕ) (s : List ℕ) (at room : ℕ) : ℕ → ℕ → Type 0 where
+  no-count : length s < at + 4 → SizeFault repeated order s at room 20 at
+  other-count : at + 4 ≤ length s → (numberAt 4 order s at < 3 + repeated) ⊎ (1024 + repeated < numberAt 4 order s at) → SizeFault repeated order s at room 24 at
+  no-room : Counted repeated order s at → room < numberAt 4 order s at - repeated → SizeFault repeated order s at room 29 at
+
+-- ---- a polygon that begins at a place
+
+module _ (s : List ℕ) (at : ℕ) where
   abbrev pub OneRing : Type 0
-  OneRing = Typed × (at + 9 ≤ length s) × (numberAt 4 (order-at s at) s (at + 5) ≡ 1)
+  OneRing = Typed s at 3 × (at + 9 ≤ length s) × (numberAt 4 (order-at s at) s (at + 5) ≡ 1)
 
-  abbrev pub Counted : Type 0
-  Counted = OneRing × (at + 13 ≤ length s) × (4 ≤ count (order-at s at) s at) × (count (order-at s at) s at ≤ 1025)
-
-  -- the lists have room for the ring
-  abbrev pub Roomy : ℕ → Type 0
-  Roomy room = Counted × (length-at s at ≤ room)
+  -- a head that the lists have room for
+  abbrev pub GoodHead : ℕ → Type 0
+  GoodHead room = OneRing × Roomy 1 (order-at s at) s (at + 9) room
 
   -- the first k coordinates are good
   abbrev pub Gridded : ℕ → ℕ → Type 0
-  Gridded room k = Roomy room × ((j : ℕ) → j < k → Good (order-at s at) s (at + 13 + 8 * j))
+  Gridded room k = GoodHead room × ((j : ℕ) → j < k → Good (order-at s at) s (at + 13 + 8 * j))
 
   abbrev pub SameX : Type 0
   SameX = gridAt (order-at s at) s (at + 13) ≡ gridAt (order-at s at) s (last s at)
@@ -58,15 +78,10 @@ module _ (s : List ℕ) (at : ℕ) where
 
 -- the number and the place of the first fault
 pub data PolygonFault (s : List ℕ) (at room : ℕ) : ℕ → ℕ → Type 0 where
-  no-order : length s < at + 1 → PolygonFault s at room 20 at
-  other-order : at + 1 ≤ length s → 1 < order-at s at → PolygonFault s at room 21 at
-  no-type : Ordered s at → length s < at + 5 → PolygonFault s at room 20 (at + 1)
-  other-type : Ordered s at → at + 5 ≤ length s → (numberAt 4 (order-at s at) s (at + 1) ≡ 3 → ⊥) → PolygonFault s at room 22 (at + 1)
-  no-rings : Typed s at → length s < at + 9 → PolygonFault s at room 20 (at + 5)
-  other-rings : Typed s at → at + 9 ≤ length s → (numberAt 4 (order-at s at) s (at + 5) ≡ 1 → ⊥) → PolygonFault s at room 23 (at + 5)
-  no-count : OneRing s at → length s < at + 13 → PolygonFault s at room 20 (at + 9)
-  other-count : OneRing s at → at + 13 ≤ length s → (count (order-at s at) s at < 4) ⊎ (1025 < count (order-at s at) s at) → PolygonFault s at room 24 (at + 9)
-  no-room : Counted s at → room < length-at s at → PolygonFault s at room 29 (at + 9)
+  other-shape : {number place : ℕ} → TypeFault s at 3 22 number place → PolygonFault s at room number place
+  no-rings : Typed s at 3 → length s < at + 9 → PolygonFault s at room 20 (at + 5)
+  other-rings : Typed s at 3 → at + 9 ≤ length s → (numberAt 4 (order-at s at) s (at + 5) ≡ 1 → ⊥) → PolygonFault s at room 23 (at + 5)
+  other-size : {number place : ℕ} → OneRing s at → SizeFault 1 (order-at s at) s (at + 9) room number place → PolygonFault s at room number place
   bad-coordinate : (i : ℕ) → i < 2 * count (order-at s at) s at → Gridded s at room i → (number : ℕ) → Bad (order-at s at) s (at + 13 + 8 * i) number
       → PolygonFault s at room number (at + 13 + 8 * i)
   left-open : Gridded s at room (2 * count (order-at s at) s at) → (SameX s at → ⊥) ⊎ (SameY s at → ⊥) → PolygonFault s at room 27 (last s at)

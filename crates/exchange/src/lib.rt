@@ -1,7 +1,9 @@
-// Layer 3, polygon bytes: write a ring, read a ring, judge one coordinate. Document 01, 'Polygon bytes'.
+// Layer 3, polygon bytes: write a ring, read a ring, judge one coordinate; and surveyors' point files. Document 01, 'Polygon bytes', and
+// document 02, 1/13.
 // No call asks anything of its caller, and a refusal writes nothing.
 mod coordinates;
 mod numbers;
+mod points;
 mod reader;
 mod writer;
 
@@ -9,10 +11,11 @@ use sheet::Refusal;
 ghost use mathlib.Core.Path.{_≡_};
 ghost use Prim.Native.Nat.{min};
 ghost use lib.ListN.{length};
-ghost use Rattle.exchange.specs.Answers.{written, reading, judged, over};
+ghost use Rattle.exchange.specs.Answers.{written, reading, surveyed, judged, over};
 ghost use Rattle.exchange.specs.Coordinates.{judgement};
 ghost use Rattle.exchange.specs.Writing.{polygon, writing};
 ghost use Rattle.exchange.specs.Reading.{read-answer, xs-at, ys-at};
+ghost use Rattle.exchange.specs.Points.{points-answer, points-xs, points-ys, sent-answer};
 
 // A coordinate as read: a grid number, a finite value off the grid as it was read, or not a finite number.
 pub enum Coordinate {
@@ -36,6 +39,12 @@ pub enum Written {
 // The ring's length.
 pub enum Reading {
     Ring(usize),
+    Refused(Refusal),
+}
+
+// The count of points.
+pub enum Surveyed {
+    Points(usize),
     Refused(Refusal),
 }
 
@@ -93,6 +102,41 @@ pub fn judge(block: &[u8], order: u8, place: usize) -> Judged
     }
     if !reader::is_whole(block, place, 8) {
         return Judged::Refused(Refusal { number: 20, place });
+    }
+    Judged::As(coordinates::coordinate_at(block, order, place))
+}
+
+// Reads a MultiPoint into the fronts of the lists, each Point in its own byte order. Places past the points stay as they were.
+pub fn read_points(block: &[u8], xs: &mut [u16], ys: &mut [u16]) -> Surveyed
+    ensures { λ r. ⌜ surveyed r ≡ points-answer (now (block .entry)) (min (length (now (xs .entry))) (length (now (ys .entry)))) ⌝ }
+    ensures { λ r. ⌜ now (xs .exit) ≡ over (surveyed r) (points-xs (now (block .entry))) (now (xs .entry)) ⌝ }
+    ensures { λ r. ⌜ now (ys .exit) ≡ over (surveyed r) (points-ys (now (block .entry))) (now (ys .entry)) ⌝ }
+{
+    let found = points::points_at(block, reader::lesser(xs.len(), ys.len()));
+    let Surveyed::Points(n) = found else {
+        return found;
+    };
+    let end = 9 + 21 * n;
+    if end < block.len() {
+        return points::refused(28, end);
+    }
+    points::fill_points(block, 9, n, xs, ys);
+    Surveyed::Points(n)
+}
+
+// The coordinate at a place of a MultiPoint, as it was sent: in its Point's byte order.
+pub fn sent(block: &[u8], place: usize) -> Judged
+    ensures { λ r. ⌜ judged r ≡ sent-answer (now (block .entry)) place ⌝ }
+{
+    if !points::is_coordinate(place) {
+        return points::unjudged(20, place);
+    }
+    if !reader::is_whole(block, place, 8) {
+        return points::unjudged(20, place);
+    }
+    let order = block[place - (place - 9) % 21];
+    if 1 < order {
+        return points::unjudged(20, place);
     }
     Judged::As(coordinates::coordinate_at(block, order, place))
 }

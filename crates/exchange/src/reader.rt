@@ -1,13 +1,13 @@
 // A polygon that begins at a place of a block: the scan that finds its first fault, and the filling of the lists after it.
 ghost use mathlib.Core.Path.{_≡_};
 ghost use mathlib.Core.Bool.{_&&_};
-ghost use Prim.Native.Nat.{_+_, _*_, _-_, _≤_, min};
+ghost use Prim.Native.Nat.{_+_, _*_, _≤_, _<_, min};
 ghost use lib.Dec.{eqb, leb};
-ghost use lib.ListN.{length};
+ghost use lib.ListN.{length, set};
 ghost use lib.Seq.{sets};
 ghost use Rattle.exchange.specs.Answers.{asked, reading, refused, faulty};
 ghost use Rattle.exchange.specs.Coordinates.{gridAt};
-ghost use Rattle.exchange.specs.Reading.{coordinates, grids, count, count-asks, head-asks, polygon-asks, length-at};
+ghost use Rattle.exchange.specs.Reading.{coordinates, grids, type-asks, size-asks, count-asks, head-asks, polygon-asks, length-at};
 use crate::Reading;
 use crate::coordinates;
 use crate::numbers;
@@ -96,6 +96,18 @@ fn scan(s: &[u8], order: u8, at: usize, n: usize) -> Fault
     Fault::Nothing
 }
 
+// Puts the grid numbers of the position at a place into the i-th places of the lists.
+pub fn keep(s: &[u8], order: u8, at: usize, xs: &mut [u16], ys: &mut [u16], i: usize)
+    requires { ⌜ at + 16 ≤ length (now s) ⌝ }
+    requires { ⌜ (i < length (now xs)) × (i < length (now ys)) ⌝ }
+    ensures { λ _. ⌜ now (xs .exit) ≡ set (now (xs .entry)) i (gridAt order (now (s .entry)) at) ⌝ }
+    ensures { λ _. ⌜ now (ys .exit) ≡ set (now (ys .entry)) i (gridAt order (now (s .entry)) (at + 8)) ⌝ }
+{
+    let p = coordinates::position_at(s, order, at);
+    xs[i] = coordinates::grid(p.x);
+    ys[i] = coordinates::grid(p.y);
+}
+
 // Fills the lists with the grid numbers of n positions from a place on.
 pub fn fill(s: &[u8], order: u8, at: usize, n: usize, xs: &mut [u16], ys: &mut [u16])
     requires { ⌜ at + 16 * n ≤ length (now s) ⌝ }
@@ -106,9 +118,7 @@ pub fn fill(s: &[u8], order: u8, at: usize, n: usize, xs: &mut [u16], ys: &mut [
     let mut i = 0;
     let mut place = at;
     while i < n {
-        let p = coordinates::position_at(s, order, place);
-        xs[i] = coordinates::grid(p.x);
-        ys[i] = coordinates::grid(p.y);
+        keep(s, order, place, xs, ys, i);
         i += 1;
         place += 16;
     }
@@ -125,32 +135,60 @@ fn same_position(s: &[u8], order: u8, a: usize, b: usize) -> bool
         & (coordinates::grid(p.y) == coordinates::grid(q.y))
 }
 
-// The second half of a head: the count of rings and of positions.
-fn counts_at(s: &[u8], order: u8, at: usize, room: usize) -> Reading
+// What stands against the byte order and the type at a place; another type is refused with the number given.
+pub fn type_fault(s: &[u8], at: usize, shape: u64, number: u8) -> Fault
     requires { ⌜ at ≤ length (now s) ⌝ }
-    ensures { λ r. ⌜ reading r ≡ asked (count-asks order (now (s .entry)) at room) (count order (now (s .entry)) at - 1) ⌝ }
+    ensures { λ r. ⌜ faulty r ≡ asked (type-asks (now (s .entry)) at shape number) tt ⌝ }
+{
+    if s.len() < at + 1 {
+        return faulted(20, at);
+    }
+    let order = s[at];
+    if 1 < order {
+        return faulted(21, at);
+    }
+    if s.len() < at + 1 + 4 {
+        return faulted(20, at + 1);
+    }
+    if numbers::number4(s, order, at + 1) != shape {
+        return faulted(number, at + 1);
+    }
+    Fault::Nothing
+}
+
+// What stands against the count at a place, for lists that both have so much room; `repeated` is 1 where the first position is repeated last.
+pub fn size_fault(s: &[u8], order: u8, at: usize, repeated: usize, room: usize) -> Fault
+    requires { ⌜ (at ≤ length (now s)) × (repeated ≤ 1) ⌝ }
+    ensures { λ r. ⌜ faulty r ≡ asked (size-asks repeated order (now (s .entry)) at room) tt ⌝ }
+{
+    if s.len() < at + 4 {
+        return faulted(20, at);
+    }
+    let count = numbers::number4(s, order, at) as usize;
+    if count < 3 + repeated {
+        return faulted(24, at);
+    }
+    if 1024 + repeated < count {
+        return faulted(24, at);
+    }
+    if room < count - repeated {
+        return faulted(29, at);
+    }
+    Fault::Nothing
+}
+
+// What stands against the counts of rings and of positions of a polygon at a place.
+fn counts_fault(s: &[u8], order: u8, at: usize, room: usize) -> Fault
+    requires { ⌜ at + 5 ≤ length (now s) ⌝ }
+    ensures { λ r. ⌜ faulty r ≡ asked (count-asks order (now (s .entry)) at room) tt ⌝ }
 {
     if s.len() < at + 5 + 4 {
-        return refused(20, at + 5);
+        return faulted(20, at + 5);
     }
     if numbers::number4(s, order, at + 5) != 1 {
-        return refused(23, at + 5);
+        return faulted(23, at + 5);
     }
-    if s.len() < at + 9 + 4 {
-        return refused(20, at + 9);
-    }
-    let count = numbers::number4(s, order, at + 9);
-    if count < 4 {
-        return refused(24, at + 9);
-    }
-    if 1025 < count {
-        return refused(24, at + 9);
-    }
-    let n = (count as usize) - 1;
-    if room < n {
-        return refused(29, at + 9);
-    }
-    Reading::Ring(n)
+    size_fault(s, order, at + 9, 1, room)
 }
 
 // The head of a polygon at a place, for lists that both have so much room: the ring's length.
@@ -158,20 +196,17 @@ fn head_at(s: &[u8], at: usize, room: usize) -> Reading
     requires { ⌜ at ≤ length (now s) ⌝ }
     ensures { λ r. ⌜ reading r ≡ asked (head-asks (now (s .entry)) at room) (length-at (now (s .entry)) at) ⌝ }
 {
-    if s.len() < at + 1 {
-        return refused(20, at);
+    let t = type_fault(s, at, 3, 22);
+    if let Fault::At(refusal) = t {
+        return Reading::Refused(refusal);
     }
     let order = s[at];
-    if 1 < order {
-        return refused(21, at);
+    let f = counts_fault(s, order, at, room);
+    if let Fault::At(refusal) = f {
+        return Reading::Refused(refusal);
     }
-    if s.len() < at + 1 + 4 {
-        return refused(20, at + 1);
-    }
-    if numbers::number4(s, order, at + 1) != 3 {
-        return refused(22, at + 1);
-    }
-    counts_at(s, order, at, room)
+    let count = numbers::number4(s, order, at + 9) as usize;
+    Reading::Ring(count - 1)
 }
 
 // A polygon at a place, scanned and not kept: the ring's length.

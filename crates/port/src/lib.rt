@@ -3,6 +3,7 @@
 use exchange::Coordinate;
 use exchange::Judged;
 use exchange::Reading;
+use exchange::Surveyed;
 use exchange::Written;
 use peel::Drawn;
 use peel::Listed;
@@ -116,15 +117,8 @@ pub extern "C" fn port_read(block: &[u8], xs: &mut [u16], ys: &mut [u16], answer
 }
 
 // Besides a refusal: 0 with a grid number, 2 with the value off the grid, 3 for what is not finite.
-#[no_mangle]
-pub extern "C" fn port_judge(
-    block: &[u8],
-    order: u8,
-    place: usize,
-    answer: &mut [u64; 4],
-    value: &mut f64,
-) {
-    match exchange::judge(block, order, place) {
+fn judged(found: Judged, answer: &mut [u64; 4], value: &mut f64) {
+    match found {
         Judged::As(coordinate) => {
             match coordinate {
                 Coordinate::Grid(number) => {
@@ -143,4 +137,37 @@ pub extern "C" fn port_judge(
             *answer = refused(refusal);
         }
     }
+}
+
+#[no_mangle]
+pub extern "C" fn port_judge(
+    block: &[u8],
+    order: u8,
+    place: usize,
+    answer: &mut [u64; 4],
+    value: &mut f64,
+) {
+    judged(exchange::judge(block, order, place), answer, value);
+}
+
+#[no_mangle]
+pub extern "C" fn port_read_points(
+    block: &[u8],
+    xs: &mut [u16],
+    ys: &mut [u16],
+    answer: &mut [u64; 4],
+) {
+    match exchange::read_points(block, xs, ys) {
+        Surveyed::Points(points) => {
+            *answer = [0, points as u64, 0, 0];
+        }
+        Surveyed::Refused(refusal) => {
+            *answer = refused(refusal);
+        }
+    }
+}
+
+#[no_mangle]
+pub extern "C" fn port_sent(block: &[u8], place: usize, answer: &mut [u64; 4], value: &mut f64) {
+    judged(exchange::sent(block, place), answer, value);
 }

@@ -249,23 +249,46 @@ impl Comparison<'_> {
     }
 
     pub fn read(&mut self, block: &[u8], room: (usize, usize)) -> Result<(Vec<u16>, Vec<u16>), Refusal> {
+        self.lists(Call::Read, block, room, |side, block, xs, ys| side.read(block, xs, ys))
+    }
+
+    pub fn read_points(&mut self, block: &[u8], room: (usize, usize)) -> Result<(Vec<u16>, Vec<u16>), Refusal> {
+        self.lists(Call::Points, block, room, |side, block, xs, ys| side.read_points(block, xs, ys))
+    }
+
+    /// A call that reads a block into two lists.
+    fn lists(
+        &mut self,
+        call: Call,
+        block: &[u8],
+        room: (usize, usize),
+        reader: fn(&dyn Library, &[u8], &mut [u16], &mut [u16]) -> Result<usize, Refusal>,
+    ) -> Result<(Vec<u16>, Vec<u16>), Refusal> {
         let mut list = |length: usize| Fenced::noise(length, &mut self.random, |n| n as u16);
         let lent = (list(room.0), list(room.1));
         let (mut here, mut there) = (lent.clone(), lent.clone());
-        let library = self.library.read(block, &mut here.0, &mut here.1);
-        let second = self.second.read(block, &mut there.0, &mut there.1);
+        let library = reader(self.library, block, &mut here.0, &mut here.1);
+        let second = reader(&self.second, block, &mut there.0, &mut there.1);
         let input = (block, room);
-        let good = self.answers(Call::Read, &input, &library, &second)
-            && self.memory(Call::Read, &input, library.is_err(), &lent, &here, &there);
+        let good =
+            self.answers(call, &input, &library, &second) && self.memory(call, &input, library.is_err(), &lent, &here, &there);
         self.pass(good);
-        let ring = library?.min(room.0).min(room.1);
-        Ok((here.0[..ring].to_vec(), here.1[..ring].to_vec()))
+        let read = library?.min(room.0).min(room.1);
+        Ok((here.0[..read].to_vec(), here.1[..read].to_vec()))
     }
 
     pub fn judge(&mut self, block: &[u8], order: u8, place: usize) -> Result<Coordinate, Refusal> {
         let library = self.library.judge(block, order, place);
         let second = self.second.judge(block, order, place);
         let good = self.answers(Call::Judge, &(block, order, place), &library, &second);
+        self.pass(good);
+        library
+    }
+
+    pub fn sent(&mut self, block: &[u8], place: usize) -> Result<Coordinate, Refusal> {
+        let library = self.library.sent(block, place);
+        let second = self.second.sent(block, place);
+        let good = self.answers(Call::Sent, &(block, place), &library, &second);
         self.pass(good);
         library
     }

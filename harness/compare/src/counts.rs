@@ -11,6 +11,8 @@ pub enum Call {
     Write,
     Read,
     Judge,
+    Points,
+    Sent,
     Polygon,
     Printed,
     /// What one side's answers must have among themselves.
@@ -27,6 +29,8 @@ impl Call {
             Call::Write => "write",
             Call::Read => "read",
             Call::Judge => "judge",
+            Call::Points => "read_points",
+            Call::Sent => "sent",
             Call::Polygon => "outline_polygon",
             Call::Printed => "printed list",
             Call::Among => "among themselves",
@@ -39,7 +43,7 @@ const GIVEN: u8 = 0;
 const ENOUGH: u64 = 100;
 
 /// What each call must have answered at least a hundred times.
-const WANTED: [(Call, &[u8]); 9] = [
+const WANTED: [(Call, &[u8]); 11] = [
     (Call::Check, &[GIVEN, 1, 2, 3, 5, 6, 7, 8, 9, 10, 11, 12, 13]),
     (Call::Draw, &[GIVEN, 1, 2, 3, 4, 5, 6, 7, 8, 9, 10, 11, 12, 13]),
     (Call::Outline, &[GIVEN]),
@@ -47,12 +51,14 @@ const WANTED: [(Call, &[u8]); 9] = [
     (Call::Write, &[GIVEN, 30, 31, 32]),
     (Call::Read, &[GIVEN, 20, 21, 22, 23, 24, 25, 26, 27, 28, 29]),
     (Call::Judge, &[GIVEN, 20, 21]),
+    (Call::Points, &[GIVEN, 20, 21, 22, 24, 25, 26, 28, 29, 33]),
+    (Call::Sent, &[GIVEN, 20]),
     (Call::Polygon, &[GIVEN, 1, 2, 3, 5, 6, 7, 8, 9, 10, 11, 12, 13, 32]),
     (Call::Printed, &[GIVEN, 2, 3, 5, 6, 7, 8, 9, 10, 11, 12, 13, 40]),
 ];
 
 /// Refusals whose place can differ from 0, for the calls that give one.
-const PLACED: [u8; 13] = [5, 6, 7, 8, 9, 10, 11, 13, 20, 25, 26, 27, 28];
+const PLACED: [u8; 14] = [5, 6, 7, 8, 9, 10, 11, 13, 20, 25, 26, 27, 28, 33];
 
 #[derive(Default)]
 pub struct Counts {

@@ -2,9 +2,33 @@
 
 use crate::comparison::{noise, office, Comparison, Memory, Slack};
 use offices::{accepted, damaged, garbage, Damage, Kind, Random, Sheet};
-use second::Tally;
+use second::{Coordinate, Tally};
 
 const LAST: u32 = u32::MAX;
+
+/// Floats that are close to grid numbers, and some that are far.
+const STRANGE: [f64; 20] = [
+    f64::INFINITY,
+    f64::NEG_INFINITY,
+    f64::NAN,
+    -f64::NAN,
+    f64::from_bits(0x7FF0_0000_0000_0001),
+    f64::from_bits(u64::MAX),
+    -0.0,
+    -1.0,
+    -5e-324,
+    5e-324,
+    0.5,
+    1.0,
+    2.0,
+    4_095.999,
+    16_382.5,
+    16_383.0,
+    16_383.000_000_000_002,
+    16_384.0,
+    65_536.0,
+    1e300,
+];
 
 fn low_first(numbers: impl IntoIterator<Item = u16>) -> Vec<u8> {
     numbers.into_iter().flat_map(u16::to_le_bytes).collect()
@@ -12,6 +36,30 @@ fn low_first(numbers: impl IntoIterator<Item = u16>) -> Vec<u8> {
 
 fn points_block(sheet: &Sheet) -> Vec<u8> {
     low_first(sheet.xs.iter().zip(&sheet.ys).flat_map(|(&x, &y)| [x, y]))
+}
+
+fn in_order(order: u8, bits: u64) -> [u8; 8] {
+    if order == 0 {
+        bits.to_be_bytes()
+    } else {
+        bits.to_le_bytes()
+    }
+}
+
+/// The points as a surveyor's file: the first order is the head's, the others are the Points'.
+fn point_file(orders: &[u8], xs: &[u16], ys: &[u16]) -> Vec<u8> {
+    let word = |order: u8, number: u32| if order == 0 { number.to_be_bytes() } else { number.to_le_bytes() };
+    let mut file = vec![orders[0]];
+    file.extend(word(orders[0], 4));
+    file.extend(word(orders[0], xs.len() as u32));
+    for ((&order, &x), &y) in orders[1..].iter().zip(xs).zip(ys) {
+        file.push(order);
+        file.extend(word(order, 1));
+        for number in [x, y] {
+            file.extend(in_order(order, (number as f64).to_bits()));
+        }
+    }
+    file
 }
 
 /// The office as the list printer's text, with random white space and leading zeros.
@@ -242,33 +290,11 @@ impl Comparison<'_> {
         }
     }
 
-    /// Each coordinate replaced by floats that are close to grid numbers, and by some that are far.
+    /// Each coordinate replaced by strange floats.
     fn coordinates(&mut self, block: &[u8], ring: usize, room: (usize, usize), every: usize) {
-        let strange = [
-            f64::INFINITY,
-            f64::NEG_INFINITY,
-            f64::NAN,
-            -f64::NAN,
-            f64::from_bits(0x7FF0_0000_0000_0001),
-            f64::from_bits(u64::MAX),
-            -0.0,
-            -1.0,
-            -5e-324,
-            5e-324,
-            0.5,
-            1.0,
-            2.0,
-            4_095.999,
-            16_382.5,
-            16_383.0,
-            16_383.000_000_000_002,
-            16_384.0,
-            65_536.0,
-            1e300,
-        ];
         for field in (0..2 * (ring + 1)).step_by(every.div_ceil(4)) {
             let at = 13 + 8 * field;
-            for value in strange {
+            for value in STRANGE {
                 let bits = value.to_bits();
                 let bytes = if block[0] == 0 { bits.to_be_bytes() } else { bits.to_le_bytes() };
                 let mut bad = block.to_vec();
@@ -280,6 +306,80 @@ impl Comparison<'_> {
                 }
                 let _ = self.read(&bad, room);
             }
+        }
+    }
+
+    /// A point file of mixed byte orders that is read, then the same damaged at every offset, cut at every offset, with strange
+    /// coordinates, with bytes left over, and with lists of every length that matters. After each fault the value is asked for.
+    pub fn point_files(&mut self, points: usize, every: usize) {
+        let mut list = || (0..points).map(|_| *self.random.pick(&[0, 1, 5, 4_096, 16_383])).collect::<Vec<u16>>();
+        let (xs, ys) = (list(), list());
+        let orders: Vec<u8> = (0..=points).map(|_| self.random.below(2) as u8).collect();
+        let file = point_file(&orders, &xs, &ys);
+        let room = (points + 2, points + 1);
+        let read = self.read_points(&file, room);
+        let wanted = Ok((xs, ys));
+        self.among("a point file is read as its points", &file, &read, &wanted, read == wanted);
+        for (x, y) in [(0, points), (points, 0), (points - 1, points), (points, points - 1), (points, points), (points + 9, points)]
+        {
+            let _ = self.read_points(&file, (x, y));
+        }
+        for offset in (0..file.len()).step_by(every) {
+            let mut bad = file.clone();
+            for byte in [file[offset] ^ 1 << self.random.below(8), self.random.next() as u8, 0, 1, 0xFF] {
+                bad[offset] = byte;
+                self.seen(&bad, room);
+                let _ = self.sent(&bad, offset);
+            }
+            let _ = self.read_points(&file[..offset], room);
+            let place = offset.saturating_sub(self.random.below(22));
+            let _ = self.sent(&file[..offset], place);
+            bad.truncate(offset + self.random.below(file.len() - offset));
+            self.seen(&bad, room);
+            if self.over() {
+                return;
+            }
+        }
+        for i in (0..points).step_by(every.div_ceil(4)) {
+            for at in [9 + 21 * i + 5, 9 + 21 * i + 13] {
+                for value in STRANGE {
+                    let mut bad = file.clone();
+                    bad[at..at + 8].copy_from_slice(&in_order(orders[i + 1], value.to_bits()));
+                    if self.random.once_in(3) {
+                        // A second fault behind it must not be seen.
+                        bad.truncate(at + self.random.within(1, bad.len() - at));
+                    }
+                    self.seen(&bad, room);
+                }
+            }
+        }
+        for count in [0, 1, 2, 3, points as u32 - 1, points as u32 + 1, 1_024, 1_025, 65_536 + 3, LAST] {
+            let mut bad = file.clone();
+            bad[5..9].copy_from_slice(&if file[0] == 0 { count.to_be_bytes() } else { count.to_le_bytes() });
+            let _ = self.read_points(&bad, room);
+            let enough = 1_023 + self.random.below(3);
+            let _ = self.read_points(&bad, (1_024, enough));
+        }
+        for more in [1, 2, 8, 21, 22] {
+            let mut long = file.clone();
+            long.extend(noise(more, &mut self.random));
+            let _ = self.read_points(&long, room);
+        }
+        for place in [file.len() - 8, file.len() - 7, file.len(), file.len() + 5, usize::MAX - 7, usize::MAX] {
+            let _ = self.sent(&file, place);
+        }
+    }
+
+    /// A file is read; where it is refused because of a coordinate, that coordinate is shown.
+    fn seen(&mut self, file: &[u8], room: (usize, usize)) {
+        if let Err(refusal) = self.read_points(file, room) {
+            let shown = self.sent(file, refusal.place);
+            let good = match refusal.number {
+                25 => shown == Ok(Coordinate::NotFinite),
+                26 => matches!(shown, Ok(Coordinate::OffGrid(_))),
+                _ => true,
+            };
+            self.among("a refused coordinate is shown", &file, &shown, &refusal, good);
         }
     }
 
@@ -378,6 +478,8 @@ impl Comparison<'_> {
         self.garbage(20);
         let ring = self.random.within(3, 8);
         self.blocks(ring, 1);
+        let points = self.random.within(3, 8);
+        self.point_files(points, 1);
         let sheet = accepted(*self.random.clone().pick(&Kind::ALL), 7, &mut self.random);
         self.texts(&sheet, if round % 16 == 0 { 1 } else { 23 });
         self.c_blocks(&sheet);
@@ -402,6 +504,7 @@ impl Comparison<'_> {
         }
         for ring in [1_023, 1_024] {
             self.blocks(ring, 997);
+            self.point_files(ring, 997);
         }
         let sheet = accepted(Kind::ThreePointHull, 1_024, &mut self.random);
         self.texts(&sheet, 20_011);

@@ -2,10 +2,11 @@
 //!
 //!     interop write COUNT SEED [--itself]   outlines of random offices: hex bytes, doubled area, then x and y along the ring
 //!     interop read [--itself]               hex lines in; 'ring' with x and y along it, or 'refused', number, place out
+//!     interop points [--itself]             the same for point files: 'points', or a refusal and the bits of a value off the grid
 
 use library::{port_or_exit, Library};
 use offices::{accepted, Kind, Random};
-use second::{Lent, Office, Second};
+use second::{Coordinate, Lent, Office, Second};
 use std::io::{stdin, BufRead};
 
 fn words(xs: &[u16], ys: &[u16]) -> String {
@@ -34,14 +35,34 @@ fn write(library: &dyn Library, count: usize, seed: u64) {
     }
 }
 
+fn bytes(line: &str) -> Vec<u8> {
+    (0..line.len() / 2).map(|i| u8::from_str_radix(&line[2 * i..2 * i + 2], 16).expect("hex")).collect()
+}
+
 fn read(library: &dyn Library) {
     for line in stdin().lock().lines() {
-        let line = line.expect("a line");
-        let block: Vec<u8> = (0..line.len() / 2).map(|i| u8::from_str_radix(&line[2 * i..2 * i + 2], 16).expect("hex")).collect();
+        let block = bytes(&line.expect("a line"));
         let (mut xs, mut ys) = (vec![0; 1_024], vec![0; 1_024]);
         match library.read(&block, &mut xs, &mut ys) {
             Ok(ring) => println!("ring{}", words(&xs[..ring], &ys[..ring])),
             Err(refusal) => println!("refused {} {}", refusal.number, refusal.place),
+        }
+    }
+}
+
+fn points(library: &dyn Library) {
+    for line in stdin().lock().lines() {
+        let file = bytes(&line.expect("a line"));
+        let (mut xs, mut ys) = (vec![0; 1_024], vec![0; 1_024]);
+        match library.read_points(&file, &mut xs, &mut ys) {
+            Ok(count) => println!("points{}", words(&xs[..count], &ys[..count])),
+            Err(refusal) => {
+                let shown = match library.sent(&file, refusal.place) {
+                    Ok(Coordinate::OffGrid(bits)) => format!(" {bits:016x}"),
+                    _ => String::new(),
+                };
+                println!("refused {} {}{shown}", refusal.number, refusal.place);
+            }
         }
     }
 }
@@ -54,8 +75,9 @@ fn main() {
     match asked.iter().map(String::as_str).collect::<Vec<_>>()[..] {
         ["write", count, seed] => write(&*library, count.parse().expect("a count"), seed.parse().expect("a seed")),
         ["read"] => read(&*library),
+        ["points"] => points(&*library),
         _ => {
-            eprintln!("interop write COUNT SEED | interop read");
+            eprintln!("interop write COUNT SEED | interop read | interop points");
             std::process::exit(2)
         }
     }

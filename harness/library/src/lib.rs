@@ -14,6 +14,8 @@ pub trait Library {
     fn write(&self, xs: &[u16], ys: &[u16], out: &mut [u8]) -> Result<usize, Refusal>;
     fn read(&self, block: &[u8], xs: &mut [u16], ys: &mut [u16]) -> Result<usize, Refusal>;
     fn judge(&self, block: &[u8], order: u8, place: usize) -> Result<Coordinate, Refusal>;
+    fn read_points(&self, block: &[u8], xs: &mut [u16], ys: &mut [u16]) -> Result<usize, Refusal>;
+    fn sent(&self, block: &[u8], place: usize) -> Result<Coordinate, Refusal>;
     fn outline_polygon(&self, points: &[u8], triangles: &[u8], limit: u32, out: &mut [u8]) -> i64;
     /// What the list printer prints for a text.
     fn printed(&self, text: &[u8]) -> Vec<u8>;
@@ -46,6 +48,14 @@ impl Library for Second {
 
     fn judge(&self, block: &[u8], order: u8, place: usize) -> Result<Coordinate, Refusal> {
         Second::judge(self, block, order, place)
+    }
+
+    fn read_points(&self, block: &[u8], xs: &mut [u16], ys: &mut [u16]) -> Result<usize, Refusal> {
+        Second::read_points(self, block, xs, ys)
+    }
+
+    fn sent(&self, block: &[u8], place: usize) -> Result<Coordinate, Refusal> {
+        Second::sent(self, block, place)
     }
 
     fn outline_polygon(&self, points: &[u8], triangles: &[u8], limit: u32, out: &mut [u8]) -> i64 {

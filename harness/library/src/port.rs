@@ -31,6 +31,10 @@ extern "C" {
         block: *const u8, block_len: usize, xs: *mut u16, xs_len: usize, ys: *mut u16, ys_len: usize, answer: &mut Answer,
     );
     fn port_judge(block: *const u8, block_len: usize, order: u8, place: usize, answer: &mut Answer, value: &mut f64);
+    fn port_read_points(
+        block: *const u8, block_len: usize, xs: *mut u16, xs_len: usize, ys: *mut u16, ys_len: usize, answer: &mut Answer,
+    );
+    fn port_sent(block: *const u8, block_len: usize, place: usize, answer: &mut Answer, value: &mut f64);
     fn outline_polygon(
         points: *const u8, points_len: usize, triangles: *const u8, triangles_len: usize, limit: u32, out: *mut u8, out_len: usize,
     ) -> i64;
@@ -50,6 +54,15 @@ fn taken(answer: Answer) -> Result<[u64; 3], Refusal> {
         [0, values @ ..] => Ok(values),
         [1, number, place, _] => Err(Refusal { number: number as u8, place: place as usize }),
         _ => panic!("no answer: {answer:?}"),
+    }
+}
+
+/// Besides the refusal, 0 with the grid number, 2 for a value off the grid, 3 for one that is not finite.
+fn judged(answer: Answer, value: f64) -> Result<Coordinate, Refusal> {
+    match answer[0] {
+        2 => Ok(Coordinate::OffGrid(value.to_bits())),
+        3 => Ok(Coordinate::NotFinite),
+        _ => taken(answer).map(|values| Coordinate::Grid(values[0] as u16)),
     }
 }
 
@@ -114,15 +127,22 @@ impl Library for Port {
         taken(answer).map(|values| values[0] as usize)
     }
 
-    /// Besides the refusal, 0 with the grid number, 2 for a value off the grid, 3 for one that is not finite.
     fn judge(&self, block: &[u8], order: u8, place: usize) -> Result<Coordinate, Refusal> {
         let (mut answer, mut value) = ([UNSET; 4], f64::NAN);
         unsafe { port_judge(block.as_ptr(), block.len(), order, place, &mut answer, &mut value) };
-        match answer[0] {
-            2 => Ok(Coordinate::OffGrid(value.to_bits())),
-            3 => Ok(Coordinate::NotFinite),
-            _ => taken(answer).map(|values| Coordinate::Grid(values[0] as u16)),
-        }
+        judged(answer, value)
+    }
+
+    fn read_points(&self, block: &[u8], xs: &mut [u16], ys: &mut [u16]) -> Result<usize, Refusal> {
+        let mut answer = [UNSET; 4];
+        unsafe { port_read_points(block.as_ptr(), block.len(), xs.as_mut_ptr(), xs.len(), ys.as_mut_ptr(), ys.len(), &mut answer) };
+        taken(answer).map(|values| values[0] as usize)
+    }
+
+    fn sent(&self, block: &[u8], place: usize) -> Result<Coordinate, Refusal> {
+        let (mut answer, mut value) = ([UNSET; 4], f64::NAN);
+        unsafe { port_sent(block.as_ptr(), block.len(), place, &mut answer, &mut value) };
+        judged(answer, value)
     }
 
     #[rustfmt::skip]

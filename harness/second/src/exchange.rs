@@ -44,14 +44,14 @@ impl Coordinate {
 }
 
 /// Reads left to right; the place of a fault is the offset of its field.
-struct Cursor<'a> {
-    block: &'a [u8],
-    at: usize,
-    big: bool,
+pub(crate) struct Cursor<'a> {
+    pub block: &'a [u8],
+    pub at: usize,
+    pub big: bool,
 }
 
 impl Cursor<'_> {
-    fn field(&mut self, width: usize) -> Result<(u64, usize), Refusal> {
+    pub fn field(&mut self, width: usize) -> Result<(u64, usize), Refusal> {
         let at = self.at;
         let Some(bytes) = self.block.get(at..at + width) else { return refuse(20, at) };
         self.at += width;
@@ -133,7 +133,7 @@ impl Second {
         Ok(ring)
     }
 
-    fn grid(&self, (bits, at): (u64, usize)) -> Result<u16, Refusal> {
+    pub(crate) fn grid(&self, (bits, at): (u64, usize)) -> Result<u16, Refusal> {
         if self.is(Wrong::TakesMinusZero) && bits == 1 << 63 {
             return Ok(0);
         }

@@ -1,4 +1,4 @@
-//! The second program: document 01 once more, written from the documents alone, to be compared with
+//! The second program: documents 01 and 02 once more, written from the documents alone, to be compared with
 //! the library. It is built differently on purpose: a hash table of directed sides, an ordered
 //! queue of rim sides, coordinates taken apart bit by bit.
 //!
@@ -9,6 +9,7 @@ mod check;
 mod exchange;
 mod host;
 mod peel;
+mod points;
 mod sides;
 mod text;
 mod wrong;

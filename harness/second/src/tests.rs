@@ -193,6 +193,64 @@ fn a_coordinate_can_be_looked_at() {
     }
 }
 
+/// T with a big-endian head; its second Point is big-endian too, the others are little-endian.
+fn point_file() -> Vec<u8> {
+    let mut file = vec![0, 0, 0, 0, 4, 0, 0, 0, 3];
+    for (i, (&x, &y)) in T.0.iter().zip(T.1).enumerate() {
+        file.extend(if i == 1 { [0, 0, 0, 0, 1] } else { [1, 1, 0, 0, 0] });
+        for value in [x as f64, y as f64] {
+            file.extend(if i == 1 { value.to_be_bytes() } else { value.to_le_bytes() });
+        }
+    }
+    file
+}
+
+fn read_points(file: &[u8]) -> Result<usize, Refusal> {
+    let (mut xs, mut ys) = ([9; 5], [9; 5]);
+    let answer = Second::right().read_points(file, &mut xs, &mut ys);
+    let stands = if answer.is_ok() { ([0, 4, 0, 9, 9], [0, 0, 3, 9, 9]) } else { ([9; 5], [9; 5]) };
+    assert_eq!((xs, ys), stands);
+    answer
+}
+
+#[test]
+fn a_point_file_is_read_up_to_its_first_fault() {
+    let file = point_file();
+    assert_eq!(read_points(&file), Ok(3));
+    for end in 0..file.len() {
+        let points = (9..72).step_by(21).flat_map(|b| [b, b + 1, b + 5, b + 13]);
+        let field = [0, 1, 5].into_iter().chain(points).filter(|&f| f <= end).max().unwrap();
+        assert_eq!(read_points(&file[..end]), refuse(20, field), "{end}");
+    }
+    let with = |at: usize, bytes: &[u8]| {
+        let mut file = file.clone();
+        file[at..at + bytes.len()].copy_from_slice(bytes);
+        file
+    };
+    assert_eq!(read_points(&with(0, &[2])), refuse(21, 0));
+    assert_eq!(read_points(&with(4, &[3])), refuse(22, 1));
+    assert_eq!(read_points(&with(8, &[2])), refuse(24, 5));
+    assert_eq!(read_points(&with(8, &[6])), refuse(29, 5));
+    assert_eq!(read_points(&with(30, &[2])), refuse(21, 30));
+    assert_eq!(read_points(&with(31, &[1])), refuse(33, 31));
+    assert_eq!(read_points(&with(35, &f64::NAN.to_be_bytes())), refuse(25, 35));
+    assert_eq!(read_points(&with(43, &0.5f64.to_be_bytes())), refuse(26, 43));
+    assert_eq!(read_points(&[file.clone(), vec![0]].concat()), refuse(28, 72));
+}
+
+#[test]
+fn the_surveyor_sees_what_was_sent() {
+    let mut file = point_file();
+    file[43..51].copy_from_slice(&0.5f64.to_be_bytes());
+    let sent = |place| Second::right().sent(&file, place);
+    assert_eq!(sent(43), Ok(Coordinate::OffGrid(0.5f64.to_bits())));
+    assert_eq!(sent(35), Ok(Coordinate::Grid(4)));
+    assert_eq!(sent(64), Ok(Coordinate::Grid(3)));
+    for place in [0, 5, 9, 13, 15, 42, 72, 77, usize::MAX] {
+        assert_eq!(sent(place), refuse(20, place));
+    }
+}
+
 #[test]
 fn the_writer_refuses_in_order() {
     let mut out = [9; 76];

@@ -49,6 +49,8 @@ pub enum Wrong {
     IgnoresBytesLeft,
     /// Reads the counts little-endian whatever the byte order says.
     CountsLittleEndian,
+    /// Reads every Point of a point file in the byte order of the file.
+    FileOrderInPoints,
     /// Asks for the C function's output first.
     OutputFirst,
     /// Takes a ring of the buffer's whole length as too long.
@@ -60,7 +62,7 @@ pub enum Wrong {
 }
 
 impl Wrong {
-    pub const ALL: [Wrong; 28] = [
+    pub const ALL: [Wrong; 29] = [
         Wrong::AtLeastTheLimit,
         Wrong::NoTieOrder,
         Wrong::DirectedTieOrder,
@@ -85,6 +87,7 @@ impl Wrong {
         Wrong::PositionFirst,
         Wrong::IgnoresBytesLeft,
         Wrong::CountsLittleEndian,
+        Wrong::FileOrderInPoints,
         Wrong::OutputFirst,
         Wrong::OutlineShortOfBuffer,
         Wrong::TakesSixDigits,

@@ -4,10 +4,9 @@ use mathlib.Core.Path.{_≡_, refl, sym, ap, _∙_}
 use native.Mathlib.Omega.{arith}
 use borrow.Author.Needs.{needs}
 use denote.Ref.{now}
-use lib.ListN.{length, set, length-set}
+use lib.ListN.{length}
 use lib.Seq.{sets}
-use lib.Ieee.{Float}
-use Rattle.exchange.specs.Coordinates.{coordinate, gridOf, gridAt}
+use Rattle.exchange.specs.Coordinates.{gridAt}
 use Rattle.exchange.specs.Reading.{grids}
 use Rattle.exchange.proofs.Scanned.{fill-step, fill-end}
 use Rattle.exchange.proofs.reader.fill.Statement.{statement}
@@ -34,26 +33,8 @@ loop-holds c =
       ap (λ (k : ℕ). sets (now (a .ys)) 0 (grids k (a .order) (now (a .s)) (a .at + 8))) e,
     )
 
-position-at-requires : tie.Need-position-at-requires Inv-loop μ-loop
-position-at-requires c κs = omega arith
-
-grid-requires : tie.Need-grid-requires Inv-loop μ-loop
-grid-requires c κs = search needs
-
-mul-xs : tie.Need-mul-xs Inv-loop μ-loop
-mul-xs c = omega arith
-
-slice-write-xs : tie.Need-slice-write-xs Inv-loop μ-loop
-slice-write-xs c = omega arith
-
-grid-requires-2 : tie.Need-grid-requires-2 Inv-loop μ-loop
-grid-requires-2 c κs = search needs
-
-mul-ys : tie.Need-mul-ys Inv-loop μ-loop
-mul-ys c = omega arith
-
-slice-write-ys : tie.Need-slice-write-ys Inv-loop μ-loop
-slice-write-ys c = omega arith
+keep-requires : tie.Need-keep-requires Inv-loop μ-loop
+keep-requires c κs = (omega arith, (omega arith, omega arith))
 
 add-i : tie.Need-add-i Inv-loop μ-loop
 add-i c = omega arith
@@ -66,22 +47,19 @@ loop-less c = omega arith
 
 loop-again : tie.Need-loop-again Inv-loop μ-loop
 loop-again c =
-    let a = c .before .before .before .before .before .before .before .before .args in
-    let l = c .before .before .before .before .loop in
-    let t = c .before .before .before .loop-test .taken in
-    let p = c .before .before .position-at in
-    let o = a .order in
+    let a = c .before .before .before .before .before .before .before .before .before .before .before .before .args in
+    let l = c .before .before .before .before .before .before .before .before .loop in
+    let t = c .before .before .before .before .before .before .before .loop-test .taken in
+    let q = c .before .before .before .before .keep in
     let s = now (a .s) in
-    let ex : c .before .grid .result ≡ gridAt o s (l .place) = c .before .grid .ensures ∙ ap (λ (x : Float). gridOf (coordinate x)) (p .ensures .0) in
-    let ey : c .grid2 .result ≡ gridAt o s (l .place + 8) = c .grid2 .ensures ∙ ap (λ (x : Float). gridOf (coordinate x)) (p .ensures .1) in
     let e : l .place + 16 + 8 ≡ l .place + 8 + 16 = omega arith in (
       omega arith,
       omega arith,
-      length-set (l .xs) (l .i) (c .before .grid .result) ∙ l .inv .2,
-      length-set (l .ys) (l .i) (c .grid2 .result) ∙ l .inv .3,
-      fill-step (a .n) (l .i) o s (l .place) t (l .xs) (c .before .grid .result) ex ∙ l .inv .4,
-      ap (λ (k : ℕ). sets (set (l .ys) (l .i) (c .grid2 .result)) (l .i + 1) (grids (a .n - (l .i + 1)) o s k)) e
-          ∙ fill-step (a .n) (l .i) o s (l .place + 8) t (l .ys) (c .grid2 .result) ey ∙ l .inv .5,
+      q .kept .1 .1 .1 .0 ∙ l .inv .2,
+      q .kept .1 .1 .1 .1 .0 ∙ l .inv .3,
+      fill-step 16 (gridAt (a .order) s) (a .n) (l .i) (l .place) t (l .xs) (q .last .1 .1 .1 .0) (q .ensures .0) ∙ l .inv .4,
+      ap (λ (k : ℕ). sets (q .last .1 .1 .1 .1 .0) (l .i + 1) (grids (a .n - (l .i + 1)) (a .order) s k)) e
+          ∙ fill-step 16 (gridAt (a .order) s) (a .n) (l .i) (l .place + 8) t (l .ys) (q .last .1 .1 .1 .1 .0) (q .ensures .1) ∙ l .inv .5,
     )
 
 same-length : tie.Need-same-length Inv-loop μ-loop
@@ -95,8 +73,8 @@ returns c =
     let a = c .before .before .before .before .before .args in
     let l = c .before .loop in
     let s = now (a .s) in (
-      fill-end (a .n) (l .i) (a .order) s (l .place) (c .loop-test .left) (l .xs) ∙ l .inv .4,
-      fill-end (a .n) (l .i) (a .order) s (l .place + 8) (c .loop-test .left) (l .ys) ∙ l .inv .5,
+      fill-end 16 (gridAt (a .order) s) (a .n) (l .i) (l .place) (c .loop-test .left) (l .xs) ∙ l .inv .4,
+      fill-end 16 (gridAt (a .order) s) (a .n) (l .i) (l .place + 8) (c .loop-test .left) (l .ys) ∙ l .inv .5,
     )
 
 pub fill-spec : {M : Type 1} → statement M
@@ -106,13 +84,7 @@ fill-spec =
     Inv-loop
     μ-loop
     loop-holds
-    position-at-requires
-    grid-requires
-    mul-xs
-    slice-write-xs
-    grid-requires-2
-    mul-ys
-    slice-write-ys
+    keep-requires
     add-i
     add-place
     loop-less

@@ -95,7 +95,7 @@ add-last-2 c =
     let answer = sym (ap reading (c .before .before .before .before .before .head .given .1)) ∙ c .before .before .before .before .before .before .before .head-at .ensures in
     let h = head-good s (a .at) (a .room) n answer in
     let fine = sym (ap faulty (c .enum-told2 .given .1)) ∙ c .before .before .scan .ensures in
-    let there = coordinates-there (2 * (n + 1)) (order-at s (a .at)) s (a .at + 13) tt (h .there) fine in
+    let there = coordinates-there (2 * (n + 1)) (order-at s (a .at)) s (a .at + 13) (h .there) fine in
     omega arith
 
 add-same-position : tie.Need-add-same-position
@@ -109,7 +109,7 @@ same-position-requires c κs =
     let answer = sym (ap reading (c .before .before .before .before .before .head .given .1)) ∙ c .before .before .before .before .before .before .before .head-at .ensures in
     let h = head-good s (a .at) (a .room) n answer in
     let fine = sym (ap faulty (c .enum-told2 .given .1)) ∙ c .before .before .scan .ensures in
-    let there = coordinates-there (2 * (n + 1)) (order-at s (a .at)) s (a .at + 13) tt (h .there) fine in
+    let there = coordinates-there (2 * (n + 1)) (order-at s (a .at)) s (a .at + 13) (h .there) fine in
     omega arith
 
 refused-requires : tie.Need-refused-requires
@@ -123,7 +123,7 @@ returns-3 c =
     let answer = sym (ap reading (c .before .before .before .before .before .before .before .before .head .given .1)) ∙ c .before .before .before .before .before .before .before .before .before .before .head-at .ensures in
     let h = head-good s (a .at) (a .room) n answer in
     let fine = sym (ap faulty (c .before .before .before .enum-told2 .given .1)) ∙ c .before .before .before .before .before .scan .ensures in
-    let there = coordinates-there (2 * (n + 1)) (order-at s (a .at)) s (a .at + 13) tt (h .there) fine in
+    let there = coordinates-there (2 * (n + 1)) (order-at s (a .at)) s (a .at + 13) (h .there) fine in
     left-open s (a .at) (a .room) n answer fine (c .before .before .same-position .ensures) (not-true (c .before .before .same-position .result) (c .before .if1 .taken)) (c .refused .ensures)
 
 returns-4 : tie.Need-returns-4
@@ -134,7 +134,7 @@ returns-4 c =
     let answer = sym (ap reading (c .before .before .before .before .before .before .before .head .given .1)) ∙ c .before .before .before .before .before .before .before .before .before .head-at .ensures in
     let h = head-good s (a .at) (a .room) n answer in
     let fine = sym (ap faulty (c .before .before .enum-told2 .given .1)) ∙ c .before .before .before .before .scan .ensures in
-    let there = coordinates-there (2 * (n + 1)) (order-at s (a .at)) s (a .at + 13) tt (h .there) fine in
+    let there = coordinates-there (2 * (n + 1)) (order-at s (a .at)) s (a .at + 13) (h .there) fine in
     closed s (a .at) (a .room) n answer fine (c .before .same-position .ensures) (not-false (c .before .same-position .result) (c .if1 .left))
 
 pub polygon-at-spec : {M : Type 1} → statement M

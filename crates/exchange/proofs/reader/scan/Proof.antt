@@ -1,18 +1,20 @@
 -- `exchange::reader::scan` meets its contract. The loop's invariant: what is left to look at from `place` on has the fault of the whole.
 use Prim.Native.Nat.{ℕ, _+_, _*_, _-_, _≤_}
 use mathlib.Core.Path.{_≡_, refl, sym, ap, _∙_}
+use mathlib.Core.List.{List}
 use native.Mathlib.Omega.{arith}
 use borrow.Author.Needs.{needs}
 use denote.Ref.{now}
 use lib.ListN.{length}
-use Rattle.exchange.specs.Answers.{faulty}
-use Rattle.exchange.proofs.Scanned.{scanned, stop, go-on, scan-end}
+use Rattle.exchange.specs.Answers.{Question, asked, faulty}
+use Rattle.exchange.specs.Reading.{coordinates}
+use Rattle.exchange.proofs.Scanned.{ran, scanned, stop, go-on, ran-end, positions-asked}
 use Rattle.exchange.proofs.Heads.{coordinates-there}
 use Rattle.exchange.proofs.reader.scan.Statement.{statement}
 use Rattle.exchange.proofs.reader.scan.Tie as tie
 
 abbrev Inv-loop : tie.InvT-loop
-Inv-loop s order at n i₀ place₀ i place = (i ≤ n) × (place ≤ length s) × (scanned (2 * (n - i)) order s place ≡ scanned (2 * n) order s at)
+Inv-loop s order at n i₀ place₀ i place = (i ≤ n) × (place ≤ length s) × (ran 16 (coordinates 2 order s) (n - i) place ≡ scanned (2 * n) order s at)
 
 abbrev μ-loop : tie.MeasureT-loop
 μ-loop s order at n i₀ place₀ i place = n - i
@@ -20,8 +22,12 @@ abbrev μ-loop : tie.MeasureT-loop
 loop-holds : tie.Need-loop-holds Inv-loop μ-loop
 loop-holds c =
     let a = c .before .args in
-    let e : 2 * (a .n - 0) ≡ 2 * a .n = omega arith in
-    (omega arith, c .before .pre, ap (λ (k : ℕ). scanned k (a .order) (now (a .s)) (a .at)) e)
+    let e : a .n - 0 ≡ a .n = omega arith in
+    let s = now (a .s) in (
+      omega arith,
+      c .before .pre,
+      ap (λ (k : ℕ). ran 16 (coordinates 2 (a .order) s) k (a .at)) e ∙ ap (λ (qs : List Question). asked qs tt) (positions-asked (a .n) (a .order) s (a .at)),
+    )
 
 position-fault-requires : tie.Need-position-fault-requires Inv-loop μ-loop
 position-fault-requires c κs = c .before .loop .inv .1
@@ -35,7 +41,7 @@ returns c =
     let l = c .before .before .before .before .loop in
     let s = now (a .s) in
     let told = ap faulty (c .enum-told .given .1) in
-    told ∙ stop (a .n) (l .i) (a .order) s (l .place) (c .before .before .before .loop-test .taken) _ _ (sym told ∙ c .before .before .position-fault .ensures) ∙ l .inv .2
+    told ∙ stop 16 (coordinates 2 (a .order) s) (a .n) (l .i) (l .place) (c .before .before .before .loop-test .taken) _ _ (sym told ∙ c .before .before .position-fault .ensures) ∙ l .inv .2
 
 enum-told-2 : tie.Need-enum-told-2 Inv-loop μ-loop
 enum-told-2 c = search needs
@@ -49,7 +55,7 @@ add-place c =
     let l = c .before .before .before .before .loop in
     let s = now (a .s) in
     let fine = sym (ap faulty (c .enum-told2 .given .1)) ∙ c .before .before .position-fault .ensures in
-    let there = coordinates-there 2 (a .order) s (l .place) tt (l .inv .1) fine in
+    let there = coordinates-there 2 (a .order) s (l .place) (l .inv .1) fine in
     omega arith
 
 loop-less : tie.Need-loop-less Inv-loop μ-loop
@@ -61,15 +67,15 @@ loop-again c =
     let l = c .before .before .before .before .loop in
     let s = now (a .s) in
     let fine = sym (ap faulty (c .enum-told2 .given .1)) ∙ c .before .before .position-fault .ensures in
-    let there = coordinates-there 2 (a .order) s (l .place) tt (l .inv .1) fine in
-    (omega arith, omega arith, go-on (a .n) (l .i) (a .order) s (l .place) (c .before .before .before .loop-test .taken) fine ∙ l .inv .2)
+    let there = coordinates-there 2 (a .order) s (l .place) (l .inv .1) fine in
+    (omega arith, omega arith, go-on 16 (coordinates 2 (a .order) s) (a .n) (l .i) (l .place) (c .before .before .before .loop-test .taken) fine ∙ l .inv .2)
 
 returns-2 : tie.Need-returns-2 Inv-loop μ-loop
 returns-2 c =
     let a = c .before .before .before .args in
     let l = c .before .loop in
     let s = now (a .s) in
-    scan-end (a .n) (l .i) (a .order) s (l .place) (c .loop-test .left) ∙ l .inv .2
+    ran-end 16 (coordinates 2 (a .order) s) (a .n) (l .i) (l .place) (c .loop-test .left) ∙ l .inv .2
 
 pub scan-spec : {M : Type 1} → statement M
 scan-spec =
