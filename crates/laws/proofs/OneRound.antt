@@ -1,20 +1,16 @@
 -- Two rounds with the same steps are one round, begun at another place; and a round's list, turned. Assumes nothing.
 use mathlib.Core.Path.{_≡_, refl, sym, ap, _∙_}
-use mathlib.Core.List.{List, _∷_, _++_, map}
+use mathlib.Core.List.{List, _∷_, map}
 use Prim.Native.Nat.{ℕ, zero, suc, _+_, _-_, _<_, _≤_}
 use native.Mathlib.Decide.{decLt}
 use native.Mathlib.Omega.{arith}
 use lib.ListN.{length, getD, take, drop, length-append, length-take, length-drop, List·getD-append}
 use lib.Seq.{ext-getD, getD-append-add, getD-drop, getD-take}
 use Rattle.laws.specs.First.{table}
-use Rattle.laws.specs.Round.{Round}
+use Rattle.laws.specs.Round.{Round, rotated}
 use Rattle.laws.proofs.Order.{level}
 use Rattle.laws.proofs.Round.{early, same-way}
 use Rattle.laws.proofs.Fill.{length-table, getD-table}
-
--- the list from place j on, and then its beginning
-abbrev pub rotated : ℕ → List ℕ → List ℕ
-rotated j l = drop j l ++ take j l
 
 module _ {Step : ℕ → ℕ → Type 0} {m k : ℕ} (c : Round Step m) (r : Round Step k) where
   pub one-round : (j : ℕ) × (j < m) × ((i : ℕ) → r .at i ≡ c .at (j + i))
@@ -71,3 +67,6 @@ rotated-table at m j l back = ext-getD 0 (rotated j T) (table (λ i. at (j + i))
           ∙ sym (back x)
           ∙ ap at (omega arith))
     ]
+
+pub length-rotated : (j : ℕ) (l : List ℕ) → j ≤ length l → length (rotated j l) ≡ length l
+length-rotated j l b = simp (length-append, length-drop, length-take) (omega arith)

@@ -8,14 +8,15 @@ use native.Mathlib.Omega.{arith}
 use lib.ListN.{length, getD}
 use Rattle.laws.specs.First.{table}
 use Rattle.laws.proofs.Bijection.{renamed-round, renamed-at}
-use Rattle.laws.specs.Round.{Round}
+use Rattle.laws.specs.Round.{Round, rotated}
 use Rattle.laws.proofs.Fill.{length-table, getD-table}
-use Rattle.laws.proofs.OneRound.{rotated, one-round, one-length, map-table, rotated-table}
+use Rattle.laws.proofs.OneRound.{one-round, one-length, map-table, rotated-table}
 use Rattle.sheet.specs.Office.{Office, rims as hull-sides}
 use Rattle.sheet.proofs.Matched.{Matched, turned-back, named, moved, head-moved, each-side}
 use Rattle.sheet.specs.Acceptable.{Acceptable}
 use Rattle.sheet.proofs.MatchedAccept.{accept}
 use Rattle.peel.specs.Peel.{ring}
+use Rattle.peel.specs.Renamed.{LowestFirst, Turned}
 use Rattle.peel.proofs.Marks.{Way, rim-iff, on-rim-iff}
 use Rattle.peel.proofs.Reached.{Sound}
 use Rattle.peel.proofs.Rings.{RingRound, outlined}
@@ -33,10 +34,6 @@ way-moved {o} {n} re a {k} {j} c p q (s, l, t, x, y) = (
   head-moved re (a .corners-bound .1) s l ∙ ap (named re) y,
 )
 
--- list l begins with its lowest number
-abbrev pub LowestFirst : List ℕ → Type 0
-LowestFirst l = (i : ℕ) → i < length l → getD l 0 0 ≤ getD l i 0
-
 pub ring-lowest : {o : Office} {x : ℕ} {k : List ℕ} → Acceptable o → Sound o x k → LowestFirst (ring o k)
 ring-lowest {o} {x} {k} a h = subst LowestFirst (sym (w .reads)) lowest
   where
@@ -52,12 +49,8 @@ ring-lowest {o} {x} {k} a h = subst LowestFirst (sym (w .reads)) lowest
         let (s, l, t, e, _) = w .round .goes i in
         rw (getD-table (w .round .at) m 0 (omega arith), getD-table (w .round .at) m i c) (w .lowest (w .round .at i) (on-rim-iff o k (w .round .at i) .1 (s, l, inl e, rim-iff o k s .0 t)))
 
--- list l is list k renumbered, begun at its lowest new number
-abbrev pub Turned : {o n : Office} → Matched o n → List ℕ → List ℕ → Type 0
-Turned re k l = ((i : ℕ) × (i < length k) × (l ≡ map (named re) (rotated i k))) × LowestFirst l
-
 module _ {o n : Office} (re : Matched o n) (a : Acceptable o) where
-  pub ring-carried : {x y : ℕ} {k j : List ℕ} → Sound o x k → Sound n y j → Carried re k j → Turned re (ring o k) (ring n j)
+  pub ring-carried : {x y : ℕ} {k j : List ℕ} → Sound o x k → Sound n y j → Carried re k j → Turned (named re) (ring o k) (ring n j)
   ring-carried {x} {y} {k} {j} h g c = ((i, rw (v .reads, length-table (v .round .at) m) l, same), ring-lowest (accept re a) g)
     where
       m : ℕ

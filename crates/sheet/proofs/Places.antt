@@ -93,9 +93,9 @@ module _ {o n : Office} (re : Renumbered o n) where
     }
 
     -- with the same new numbers
-    pub matched-point : (p : ℕ) → matched .numbers .to p ≡ re .number .to p
+    pub matched-number : matched .numbers ≡ re .number
     unfolding matched
-    matched-point p = refl
+    matched-number = refl
 
     pub matched-triangle : (t : ℕ) → moved-triangle matched t ≡ re .triangle .to t
     unfolding matched there
