@@ -2,7 +2,6 @@
 use mathlib.Core.Path.{_≡_, refl, sym, ap, ap₂, _∙_}
 use Prim.Native.Nat.{ℕ, _+_, _*_, _/_, _%_, _<_}
 use native.Mathlib.Omega.{arith}
-use Rattle.laws.specs.Bijection.{Bijection}
 use Rattle.sheet.specs.Office.{Office, sides, triangles, tail, next}
 use Rattle.sheet.specs.Renumbered.{Renumbered}
 use Rattle.sheet.proofs.Side.{own-triangle, triangle-below, next-triangle}
