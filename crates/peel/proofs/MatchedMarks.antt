@@ -58,16 +58,21 @@ module _ {o n : Office} (re : Matched o n) (a : Acceptable o) where
       long-same : (s : ℕ) → s < sides o → long o s ≡ long n (moved re s)
       long-same s l = sym (long-moved s l)
 
-      -- the point of a choice is the choice of the points
-      chosen : (o : Office) (u : Bool) (p q : ℕ) → point o (cond u p q) ≡ cond u (point o p) (point o q)
-      chosen o true p q = refl
-      chosen o false p q = refl
+      -- the ends come in the same order
+      end-same : (s : ℕ) → s < sides o → (p q p′ q′ : ℕ) → point o p ≡ point n p′ → point o q ≡ point n q′
+          → point o (cond (sooner (point o (head o s)) (point o (tail o s))) p q) ≡ point n (cond (sooner (point n (head n (moved re s))) (point n (tail n (moved re s)))) p′ q′)
+      end-same s l p q p′ q′ x y =
+          subst (λ u. point o (cond (sooner (point o (head o s)) (point o (tail o s))) p q) ≡ point n (cond u p′ q′)) (λ i. sooner (to s l i) (from s l i)) (either (sooner (point o (head o s)) (point o (tail o s))))
+        where
+          either : (u : Bool) → point o (cond u p q) ≡ point n (cond u p′ q′)
+          either true = x
+          either false = y
 
       first-same : (s : ℕ) → s < sides o → point o (first-end o s) ≡ point n (first-end n (moved re s))
-      first-same s l = chosen o (sooner (point o (head o s)) (point o (tail o s))) (head o s) (tail o s) ∙ (λ i. cond (sooner (to s l i) (from s l i)) (to s l i) (from s l i)) ∙ sym (chosen n (sooner (point n (head n (moved re s))) (point n (tail n (moved re s)))) (head n (moved re s)) (tail n (moved re s)))
+      first-same s l = end-same s l (head o s) (tail o s) (head n (moved re s)) (tail n (moved re s)) (to s l) (from s l)
 
       second-same : (s : ℕ) → s < sides o → point o (second-end o s) ≡ point n (second-end n (moved re s))
-      second-same s l = chosen o (sooner (point o (head o s)) (point o (tail o s))) (tail o s) (head o s) ∙ (λ i. cond (sooner (to s l i) (from s l i)) (from s l i) (to s l i)) ∙ sym (chosen n (sooner (point n (head n (moved re s))) (point n (tail n (moved re s)))) (tail n (moved re s)) (head n (moved re s)))
+      second-same s l = end-same s l (tail o s) (head o s) (tail n (moved re s)) (head n (moved re s)) (from s l) (to s l)
 
   module _ {k j : List ℕ} (c : Carried re k j) where
     pub rim-moved : (s : ℕ) → s < sides o → Rim o k s ↔ Rim n j (moved re s)

@@ -18,7 +18,11 @@ pub fn is_sooner(xs: &[u16], ys: &[u16], p: usize, q: usize) -> bool
     requires { ⌜ (length (now xs) ≡ length (now ys)) × (p < length (now xs)) × (q < length (now xs)) ⌝ }
     ensures { λ r. ⌜ r ≡ peeling.sooner (point (office (now (xs .entry)) (now (ys .entry)) []) p) (point (office (now (xs .entry)) (now (ys .entry)) []) q) ⌝ }
 {
-    (xs[p] < xs[q]) | ((xs[p] == xs[q]) & (ys[p] < ys[q]))
+    let x = xs[p];
+    let y = ys[p];
+    let u = xs[q];
+    let v = ys[q];
+    (x < u) | ((x == u) & (y < v))
 }
 
 // The two ends of side s, in their order.
