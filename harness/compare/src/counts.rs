@@ -1,0 +1,105 @@
+//! What was compared, and how often each refusal was given.
+
+use std::collections::BTreeMap;
+
+#[derive(Clone, Copy, Debug, PartialEq, Eq, PartialOrd, Ord)]
+pub enum Call {
+    Check,
+    Draw,
+    Outline,
+    List,
+    Write,
+    Read,
+    Judge,
+    Polygon,
+    Printed,
+    /// What one side's answers must have among themselves.
+    Among,
+}
+
+impl Call {
+    fn name(self) -> &'static str {
+        match self {
+            Call::Check => "check",
+            Call::Draw => "draw",
+            Call::Outline => "outline",
+            Call::List => "list",
+            Call::Write => "write",
+            Call::Read => "read",
+            Call::Judge => "judge",
+            Call::Polygon => "outline_polygon",
+            Call::Printed => "printed list",
+            Call::Among => "among themselves",
+        }
+    }
+}
+
+/// 0 stands for an answer that is no refusal.
+const GIVEN: u8 = 0;
+const ENOUGH: u64 = 100;
+
+/// What each call must have answered at least a hundred times.
+const WANTED: [(Call, &[u8]); 9] = [
+    (Call::Check, &[GIVEN, 1, 2, 3, 5, 6, 7, 8, 9, 10, 11, 12, 13]),
+    (Call::Draw, &[GIVEN, 1, 2, 3, 4, 5, 6, 7, 8, 9, 10, 11, 12, 13]),
+    (Call::Outline, &[GIVEN]),
+    (Call::List, &[GIVEN, 1, 2, 3, 4, 5, 6, 7, 8, 9, 10, 11, 12, 13]),
+    (Call::Write, &[GIVEN, 30, 31, 32]),
+    (Call::Read, &[GIVEN, 20, 21, 22, 23, 24, 25, 26, 27, 28, 29]),
+    (Call::Judge, &[GIVEN, 20, 21]),
+    (Call::Polygon, &[GIVEN, 1, 2, 3, 5, 6, 7, 8, 9, 10, 11, 12, 13, 32]),
+    (Call::Printed, &[GIVEN, 2, 3, 5, 6, 7, 8, 9, 10, 11, 12, 13, 40]),
+];
+
+/// Refusals whose place can differ from 0, for the calls that give one.
+const PLACED: [u8; 13] = [5, 6, 7, 8, 9, 10, 11, 13, 20, 25, 26, 27, 28];
+
+#[derive(Default)]
+pub struct Counts {
+    pub passed: u64,
+    pub failed: u64,
+    pub offices: u64,
+    pub largest: usize,
+    /// For each call and number: how often, and how often with a place other than 0.
+    given: BTreeMap<(Call, u8), (u64, u64)>,
+}
+
+impl Counts {
+    pub fn count(&mut self, call: Call, number: u8, place: usize) {
+        let (all, past) = self.given.entry((call, number)).or_default();
+        *all += 1;
+        *past += (place != 0) as u64;
+    }
+
+    /// One line a call: each number with how often it was given, and how often at a place other than 0.
+    pub fn print(&self) {
+        for (call, _) in WANTED.iter().chain([&(Call::Among, &[][..])]) {
+            let mut line = format!("{:<16}", call.name());
+            for ((_, number), (all, past)) in self.given.range((*call, 0)..=(*call, u8::MAX)) {
+                match (*number, *past) {
+                    (GIVEN, _) => line += &format!(" given {all}"),
+                    (_, 0) => line += &format!(", {number}: {all}"),
+                    _ => line += &format!(", {number}: {all} ({past})"),
+                }
+            }
+            println!("{line}");
+        }
+    }
+
+    /// The calls and numbers that did not come up often enough.
+    pub fn missing(&self) -> Vec<String> {
+        let mut missing = Vec::new();
+        for (call, numbers) in WANTED {
+            for &number in numbers {
+                let (all, past) = self.given.get(&(call, number)).copied().unwrap_or_default();
+                if all < ENOUGH {
+                    missing.push(format!("{} gave {number} only {all} times", call.name()));
+                }
+                if past < ENOUGH && PLACED.contains(&number) && call != Call::Polygon {
+                    missing.push(format!("{} gave {number} only {past} times with a place other than 0", call.name()));
+                }
+            }
+        }
+        missing
+    }
+}
