@@ -68,7 +68,7 @@ int main(void)
     static const uint8_t points[] = {0, 0, 0, 0, 10, 0, 0, 0, 10, 0, 10, 0, 0, 0, 10, 0, 5, 0, 2, 0};
     static const uint8_t triangles[] = {0, 0, 1, 0, 4, 0, 1, 0, 2, 0, 4, 0, 2, 0, 3, 0, 4, 0, 3, 0, 0, 0, 4, 0};
     static const double hull[4][2] = {{0, 0}, {10, 0}, {10, 10}, {0, 10}};
-    static const double dented[5][2] = {{0, 0}, {5, 2}, {10, 0}, {10, 10}, {0, 10}};
+    static const double dented[5][2] = {{0, 0}, {10, 0}, {10, 10}, {0, 10}, {5, 2}};
     static uint8_t large[4100];
     uint8_t out[128];
 

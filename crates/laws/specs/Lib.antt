@@ -1,3 +1,4 @@
 pub mod First
 pub mod Round
+pub mod Bijection
 pub mod Sorted

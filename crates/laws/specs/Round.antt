@@ -1,6 +1,8 @@
 -- A closed round of m points that visits each once, as the point at each step of going round for ever. Assumes nothing.
 use mathlib.Core.Path.{_≡_}
+use mathlib.Core.List.{List, _++_}
 use Prim.Native.Nat.{ℕ, _+_, _<_}
+use lib.ListN.{take, drop}
 
 -- `at i` is the point at step i: step i + m is there again, no step between is, and the steps are exactly the pairs that Step allows
 pub record Round (Step : ℕ → ℕ → Type 0) (m : ℕ) : Type 0 where
@@ -14,3 +16,7 @@ pub record Round (Step : ℕ → ℕ → Type 0) (m : ℕ) : Type 0 where
 -- of n directed sides, each with a tail and a head, one that is a Side runs from p to q
 abbrev pub Runs : ℕ → (ℕ → Type 0) → (ℕ → ℕ) → (ℕ → ℕ) → ℕ → ℕ → Type 0
 Runs n Side tail head p q = (s : ℕ) × (s < n) × Side s × (tail s ≡ p) × (head s ≡ q)
+
+-- a round as a list, begun at its place j
+abbrev pub rotated : ℕ → List ℕ → List ℕ
+rotated j l = drop j l ++ take j l

@@ -73,9 +73,9 @@ module _ (xs ys corners mate kept marks : List ℕ) (h : Held (office xs ys corn
     long-is : m ≡ long o r
     long-is = let z : Side r m ≡ told o (side-of (Side r m)) = sym is ∙ e ∙ ap (λ x. told o (side-of x)) is in cc
 
-    before-is : {b : Bool} (q : ℕ) → q ≡ long o s → b ≡ earlier corners s q r m → b ≡ before o s r
+    before-is : {b : Bool} (q : ℕ) → q ≡ long o s → b ≡ earlier o s q r m → b ≡ before o s r
     unfolding before
-    before-is q z t = t ∙ ap (λ x. earlier corners s x r m) z ∙ ap (λ x. earlier corners s (long o s) r x) long-is
+    before-is q z t = t ∙ ap (λ x. earlier o s x r m) z ∙ ap (λ x. earlier o s (long o s) r x) long-is
 
     chosen : (b : Bool) → b ≡ before o s r → better o k s (side-of found) ≡ cond b (some s) (some r)
     unfolding better
@@ -84,10 +84,10 @@ module _ (xs ys corners mate kept marks : List ℕ) (h : Held (office xs ys corn
         step : better o k s (some r) ≡ cond b (some s) (some r)
         step = rw (f, ← t)
 
-    pub replaces : {b : Bool} (q : ℕ) → q ≡ long o s → b ≡ earlier corners s q r m → b ≡ true → Side s q ≡ told o (better o k s (side-of found))
+    pub replaces : {b : Bool} (q : ℕ) → q ≡ long o s → b ≡ earlier o s q r m → b ≡ true → Side s q ≡ told o (better o k s (side-of found))
     replaces q z t u = ap (Side s) z ∙ sym (ap (told o) (chosen true (sym u ∙ before-is q z t)))
 
-    pub remains : {b : Bool} (q : ℕ) → q ≡ long o s → b ≡ earlier corners s q r m → b ≡ false → Side r m ≡ told o (better o k s (side-of found))
+    pub remains : {b : Bool} (q : ℕ) → q ≡ long o s → b ≡ earlier o s q r m → b ≡ false → Side r m ≡ told o (better o k s (side-of found))
     remains q z t u = ap (Side r) long-is ∙ sym (ap (told o) (chosen false (sym u ∙ before-is q z t)))
 
 -- the place found is a side

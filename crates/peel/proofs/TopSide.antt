@@ -9,47 +9,82 @@ use native.Mathlib.Decide.{decLt, ℕ-discrete}
 use native.Mathlib.Omega.{arith}
 use Rattle.laws.proofs.Test.{and-iff, false-iff, ltb-iff}
 use Rattle.laws.proofs.Order.{Lex, lex-iff, lex-trans, lex-total, lex-never}
-use Rattle.sheet.specs.Office.{Office, sides, tail}
+use Rattle.sheet.specs.Plane.{Point}
+use Rattle.sheet.specs.Office.{Office, points, sides, point, tail, head, next}
 use Rattle.sheet.specs.Acceptable.{Acceptable}
-use Rattle.peel.specs.Peel.{removable, long, low, high, before, better, best-from, best}
+use Rattle.sheet.proofs.Side.{next-below}
+use Rattle.peel.specs.Peel.{removable, sooner, long, first-end, second-end, before, better, best-from, best}
 use Rattle.peel.proofs.Marks.{Rim, removable-iff}
+
+-- two points with the same coordinates
+abbrev Alike : Point → Point → Type 0
+Alike a b = (a .x ≡ b .x) × (a .y ≡ b .y)
+
+-- a side of the length long with the ends a and b goes before one of the length other with the ends c and d
+abbrev pub Precedes : ℕ → Point → Point → ℕ → Point → Point → Type 0
+Precedes long a b other c d = Lex other long (Lex (a .x) (c .x) (Lex (a .y) (c .y) (Lex (b .x) (d .x) (b .y < d .y))))
 
 -- side s goes before side r
 abbrev pub Before : Office → ℕ → ℕ → Type 0
-Before o s r = Lex (long o r) (long o s) (Lex (low o s) (low o r) (high o s < high o r))
+Before o s r = Precedes (long o s) (point o (first-end o s)) (point o (second-end o s)) (long o r) (point o (first-end o r)) (point o (second-end o r))
 
 pub before-iff : (o : Office) (s r : ℕ) → (before o s r ≡ true) ↔ Before o s r
 unfolding before
-before-iff o s r = lex-iff (lex-iff ltb-iff)
+before-iff o s r = lex-iff (lex-iff (lex-iff (lex-iff ltb-iff)))
 
 pub before-trans : (o : Office) (s r q : ℕ) → Before o s r → Before o r q → Before o s q
-before-trans o s r q x y = lex-trans (λ v u. lex-trans (λ a b. omega arith) u v) y x
+before-trans o s r q x y = lex-trans (λ v u. lex-trans (lex-trans (lex-trans (λ a b. omega arith))) u v) y x
 
 pub before-never : (o : Office) (s : ℕ) → Before o s s → ⊥
-before-never o s = lex-never (lex-never (λ l. omega arith))
+before-never o s = lex-never (lex-never (lex-never (lex-never (λ l. omega arith))))
+
+-- of two sides one goes first, or they have the same ends
+precedes-total : (long : ℕ) (a b : Point) (other : ℕ) (c d : Point) → Precedes long a b other c d ⊎ (Precedes other c d long a b ⊎ (Alike a c × Alike b d))
+precedes-total long a b other c d = step (lex-total (lex-total (lex-total (lex-total (last (b .y) (d .y))))))
+  where
+    last : (i j : ℕ) → (i < j) ⊎ ((j < i) ⊎ (i ≡ j))
+    last i j = elim (decLt i j) [
+      | yes h ↦ inl h
+      | no g ↦ elim (decLt j i) [ yes h ↦ inr (inl h) | no h ↦ inr (inr (omega arith)) ]
+    ]
+
+    step : Precedes long a b other c d ⊎ (Precedes other c d long a b ⊎ ((other ≡ long) × ((a .x ≡ c .x) × ((a .y ≡ c .y) × Alike b d))))
+        → Precedes long a b other c d ⊎ (Precedes other c d long a b ⊎ (Alike a c × Alike b d))
+    step (inl h) = inl h
+    step (inr (inl h)) = inr (inl h)
+    step (inr (inr (_, (p, (q, u))))) = inr (inr ((p, q), u))
+
+-- the same two points, one way round or the other
+same-pair : (a b c d : ℕ) (u v : Bool) → cond u b a ≡ cond v d c → cond u a b ≡ cond v c d → ((a ≡ c) × (b ≡ d)) ⊎ ((c ≡ b) × (d ≡ a))
+same-pair a b c d true true x y = inl (y, x)
+same-pair a b c d false false x y = inl (x, y)
+same-pair a b c d true false x y = inr (sym x, sym y)
+same-pair a b c d false true x y = inr (sym y, sym x)
 
 module _ {o : Office} (a : Acceptable o) (k : List ℕ) where
-  -- two rim sides with the same two ends are one
-  same-ends : (s r : ℕ) → s < sides o → r < sides o → Rim o k s → Rim o k r → low o s ≡ low o r → high o s ≡ high o r → s ≡ r
-  same-ends s r l m x y p q = elim (ℕ-discrete (tail o s) (tail o r)) [
-    | yes e ↦ a .single s r l m e (omega arith)
-    | no f ↦ absurd (x .1 r m (y .0) (omega arith, omega arith))
-  ]
-
-  -- of two others, one goes first
+  -- of two rim sides, one goes first: no two have the same ends
   pub before-total : (s r : ℕ) → s < sides o → r < sides o → Rim o k s → Rim o k r → (s ≡ r → ⊥) → Before o s r ⊎ Before o r s
-  before-total s r l m x y f = step (lex-total (lex-total last))
+  before-total s r l m x y f = step (precedes-total (long o s) (point o (first-end o s)) (point o (second-end o s)) (long o r) (point o (first-end o r)) (point o (second-end o r)))
     where
-      last : (high o s < high o r) ⊎ ((high o r < high o s) ⊎ (high o s ≡ high o r))
-      last = elim (decLt (high o s) (high o r)) [
-        | yes h ↦ inl h
-        | no g ↦ elim (decLt (high o r) (high o s)) [ yes h ↦ inr (inl h) | no h ↦ inr (inr (omega arith)) ]
-      ]
+      turned : ℕ → Bool
+      turned i = sooner (point o (head o i)) (point o (tail o i))
 
-      step : Before o s r ⊎ (Before o r s ⊎ ((long o r ≡ long o s) × ((low o s ≡ low o r) × (high o s ≡ high o r)))) → Before o s r ⊎ Before o r s
+      -- an end is a point
+      end : (i : ℕ) (b : Bool) → i < sides o → (cond b (head o i) (tail o i) < points o) × (cond b (tail o i) (head o i) < points o)
+      end i true l = (a .numbered (next i) (next-below (sides o) i (a .corners-bound .1) l), a .numbered i l)
+      end i false l = (a .numbered i l, a .numbered (next i) (next-below (sides o) i (a .corners-bound .1) l))
+
+      same : ((tail o s ≡ tail o r) × (head o s ≡ head o r)) ⊎ ((tail o r ≡ head o s) × (head o r ≡ tail o s)) → s ≡ r
+      same (inl (e, g)) = a .single s r l m e g
+      same (inr v) = absurd (x .1 r m (y .0) v)
+
+      step : Before o s r ⊎ (Before o r s ⊎ (Alike (point o (first-end o s)) (point o (first-end o r)) × Alike (point o (second-end o s)) (point o (second-end o r)))) → Before o s r ⊎ Before o r s
       step (inl h) = inl h
       step (inr (inl h)) = inr h
-      step (inr (inr (_, (p, q)))) = absurd (f (same-ends s r l m x y p q))
+      step (inr (inr ((p, q), (u, v)))) =
+          let (i, j) = end s (turned s) l in
+          let (g, h) = end r (turned r) m in
+          absurd (f (same (same-pair (tail o s) (head o s) (tail o r) (head o r) (turned s) (turned r) (a .distinct _ _ i g p q) (a .distinct _ _ j h u v))))
 
   -- what a search of the sides below n has found
   abbrev pub Top : ℕ → Option ℕ → Type 0

@@ -23,11 +23,11 @@ claims-too-much round sides l = ap (λ b. cond b (take sides round) []) (lt-leb 
 pub claims-enough : (round : List ℕ) (sides : ℕ) → sides ≤ length round → used round sides ≡ take sides round
 claims-enough round sides l = ap (λ b. cond b (take sides round) []) (le-leb sides (length round) l)
 
-ring-sides : (o : Office) (k : List ℕ) → length (ring o k) ≡ rims o k
+pub ring-sides : (o : Office) (k : List ℕ) → length (ring o k) ≡ rims o k
 unfolding ring
 ring-sides o k = length-walk (after o k) (first (on-rim o k) (points o)) (rims o k)
 
-used-front : (front rest : List ℕ) (n : ℕ) → length front ≡ n → used (front ++ rest) n ≡ front
+pub used-front : (front rest : List ℕ) (n : ℕ) → length front ≡ n → used (front ++ rest) n ≡ front
 used-front front rest n e = claims-enough (front ++ rest) n (let h = length-append front rest in omega arith) ∙ take-at front rest n e
 
 -- where a draw answers a tally, the used part of the ring buffer is the outline

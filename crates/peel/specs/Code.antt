@@ -8,9 +8,9 @@ use lib.Dec.{ltb}
 use lib.ListN.{length, getD, set, take, drop}
 use lib.Seq.{sets}
 use Rattle.laws.specs.First.{table}
-use Rattle.sheet.specs.Office.{Office, bare, mate-of, points, sides, triangles, tail, head}
+use Rattle.sheet.specs.Office.{Office, bare, mate-of, points, sides, triangles, point, tail, head}
 use Rattle.sheet.specs.Acceptable.{Acceptable}
-use Rattle.peel.specs.Peel.{rim, on-rim, precedes, low, high, long, best, turned, peels, rims, ring, peeled, doubled}
+use Rattle.peel.specs.Peel.{rim, on-rim, precedes, first-end, second-end, long, best, turned, peels, rims, ring, peeled, doubled}
 use Rattle.peel.specs.List.{Entry, entries-from}
 use Rattle.peel.specs.Reached.{Reached}
 use Rattle.peel.specs.Answer.{mark}
@@ -24,8 +24,15 @@ abbrev pub front : List ℕ → List ℕ → List ℕ
 front corners kept = take (length corners / 3) kept
 
 -- side s, of length long, goes before side r, of length other
-abbrev pub earlier : List ℕ → ℕ → ℕ → ℕ → ℕ → Bool
-earlier corners s long r other = precedes long (low (bare corners) s) (high (bare corners) s) other (low (bare corners) r) (high (bare corners) r)
+abbrev pub earlier : Office → ℕ → ℕ → ℕ → ℕ → Bool
+earlier o s long r other = precedes long (point o (first-end o s)) (point o (second-end o s)) other (point o (first-end o r)) (point o (second-end o r))
+
+-- the ends of side s, in their order
+pub record Ordered (o : Office) (s first second : ℕ) : Type 0 where
+  pub is-first : first ≡ first-end o s
+  pub is-second : second ≡ second-end o s
+  pub first-there : first < points o
+  pub second-there : second < points o
 
 -- an acceptable office, its mates, and the marks of its triangles and of the points on the rim
 pub record Held (o : Office) (mate kept rim : List ℕ) : Type 0 where

@@ -1,36 +1,76 @@
 // The side to peel next.
 use crate::answers::Best;
-use crate::sides::high_of;
+use crate::answers::Ends;
 use crate::sides::is_rim;
-use crate::sides::low_of;
 use crate::sides::side_squared;
+use sheet::plane::wide;
 ghost use mathlib.Core.Path.{_≡_};
-ghost use Prim.Native.Nat.{_%_, _<_, _≤_};
+ghost use Prim.Native.Nat.{_<_};
 ghost use lib.ListN.{length};
-ghost use Rattle.sheet.specs.Office.{office};
-ghost use Rattle.peel.specs.Code.{front, earlier, Held, told, side-of, place-of};
+ghost use mathlib.Core.List.{[]};
+ghost use Rattle.sheet.specs.Office.{office, point};
+ghost use Rattle.sheet.specs.Acceptable.{Acceptable};
+ghost use Rattle.peel.specs.Code.{front, earlier, Ordered, Held, told, side-of, place-of};
 ghost use Rattle.peel.specs.Peel as peeling;
 
-// Whether a side goes before another: it is longer; of equal lengths, the smaller lower point number, then the smaller higher one.
-pub fn precedes(long: u32, low: u16, high: u16, rlong: u32, rlow: u16, rhigh: u16) -> bool
-    ensures { λ r. ⌜ r ≡ peeling.precedes long low high rlong rlow rhigh ⌝ }
+// Whether point p comes before point q: it has the smaller x; of equal x, the smaller y.
+pub fn is_sooner(xs: &[u16], ys: &[u16], p: usize, q: usize) -> bool
+    requires { ⌜ (length (now xs) ≡ length (now ys)) × (p < length (now xs)) × (q < length (now xs)) ⌝ }
+    ensures { λ r. ⌜ r ≡ peeling.sooner (point (office (now (xs .entry)) (now (ys .entry)) []) p) (point (office (now (xs .entry)) (now (ys .entry)) []) q) ⌝ }
 {
-    (rlong < long) | ((rlong == long) & ((low < rlow) | ((low == rlow) & (high < rhigh))))
+    let x = xs[p];
+    let y = ys[p];
+    let u = xs[q];
+    let v = ys[q];
+    (x < u) | ((x == u) & (y < v))
 }
 
-// Whether side s, of squared length long, goes before side r, of squared length other.
-pub fn goes_before(corners: &[u16], s: usize, long: u32, r: usize, other: u32) -> bool
-    requires { ⌜ (length (now corners) % 3 ≡ 0) × (length (now corners) ≤ 6129) × (s < length (now corners)) × (r < length (now corners)) ⌝ }
-    ensures { λ b. ⌜ b ≡ earlier (now (corners .entry)) s long r other ⌝ }
+// The two ends of side s, in their order.
+pub fn ends_of(xs: &[u16], ys: &[u16], corners: &[u16], s: usize) -> Ends
+    requires { ⌜ Acceptable (office (now xs) (now ys) (now corners)) × (s < length (now corners)) ⌝ }
+    ensures { λ r. ⌜ Ordered (office (now (xs .entry)) (now (ys .entry)) (now (corners .entry))) s (r .first) (r .second) ⌝ }
 {
-    precedes(
-        long,
-        low_of(corners, s),
-        high_of(corners, s),
-        other,
-        low_of(corners, r),
-        high_of(corners, r),
-    )
+    let e = s / 3 * 3 + (s + 1) % 3;
+    let a = wide(corners[s]);
+    let b = wide(corners[e]);
+    if is_sooner(xs, ys, b, a) {
+        return Ends {
+            first: b,
+            second: a,
+        };
+    }
+    Ends {
+        first: a,
+        second: b,
+    }
+}
+
+// Whether side s, of squared length long, goes before side r, of squared length other: it is longer; of equal lengths, by the first end, then
+// by the second.
+pub fn goes_before(
+    xs: &[u16],
+    ys: &[u16],
+    corners: &[u16],
+    s: usize,
+    long: u32,
+    r: usize,
+    other: u32,
+) -> bool
+    requires { ⌜ Acceptable (office (now xs) (now ys) (now corners)) × (s < length (now corners)) × (r < length (now corners)) ⌝ }
+    ensures { λ b. ⌜ b ≡ earlier (office (now (xs .entry)) (now (ys .entry)) (now (corners .entry))) s long r other ⌝ }
+{
+    if other != long {
+        return other < long;
+    }
+    let e = ends_of(xs, ys, corners, s);
+    let f = ends_of(xs, ys, corners, r);
+    if is_sooner(xs, ys, e.first, f.first) {
+        return true;
+    }
+    if is_sooner(xs, ys, f.first, e.first) {
+        return false;
+    }
+    is_sooner(xs, ys, e.second, f.second)
 }
 
 // The better one of the side found so far and side s.
@@ -67,7 +107,7 @@ pub fn better(
             };
         }
         Best::Side { place, squared } => {
-            let first = goes_before(corners, s, long, place, squared);
+            let first = goes_before(xs, ys, corners, s, long, place, squared);
             if first {
                 return Best::Side {
                     place: s,

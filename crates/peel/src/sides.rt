@@ -4,7 +4,7 @@ use sheet::plane::doubled;
 use sheet::plane::squared;
 use sheet::plane::wide;
 ghost use mathlib.Core.Path.{_≡_};
-ghost use Prim.Native.Nat.{_/_, _%_, _<_, _≤_, min, max};
+ghost use Prim.Native.Nat.{_/_, _%_, _<_, _≤_};
 ghost use lib.ListN.{length, take};
 ghost use lib.IntN.{natAbs};
 ghost use Rattle.laws.specs.First.{table};
@@ -41,34 +41,6 @@ pub fn area_of(xs: &[u16], ys: &[u16], corners: &[u16], t: usize) -> u32
         at_corner(xs, corners, s + 2),
         at_corner(ys, corners, s + 2),
     )
-}
-
-pub fn lower(a: u16, b: u16) -> u16
-    ensures { λ r. ⌜ r ≡ min a b ⌝ }
-{
-    if a < b { a } else { b }
-}
-
-pub fn higher(a: u16, b: u16) -> u16
-    ensures { λ r. ⌜ r ≡ max a b ⌝ }
-{
-    if a < b { b } else { a }
-}
-
-pub fn low_of(corners: &[u16], s: usize) -> u16
-    requires { ⌜ (length (now corners) % 3 ≡ 0) × (length (now corners) ≤ 6129) × (s < length (now corners)) ⌝ }
-    ensures { λ r. ⌜ r ≡ peeling.low (bare (now (corners .entry))) s ⌝ }
-{
-    let e = s / 3 * 3 + (s + 1) % 3;
-    lower(corners[s], corners[e])
-}
-
-pub fn high_of(corners: &[u16], s: usize) -> u16
-    requires { ⌜ (length (now corners) % 3 ≡ 0) × (length (now corners) ≤ 6129) × (s < length (now corners)) ⌝ }
-    ensures { λ r. ⌜ r ≡ peeling.high (bare (now (corners .entry))) s ⌝ }
-{
-    let e = s / 3 * 3 + (s + 1) % 3;
-    higher(corners[s], corners[e])
 }
 
 // Whether side s is on the rim: its triangle is kept, and its mate's is not.

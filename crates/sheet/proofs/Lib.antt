@@ -39,3 +39,8 @@ pub mod Aim
 pub mod Tiled
 pub mod Areas
 pub mod NoOverlap
+pub mod Rotate
+pub mod Matched
+pub mod MatchedAccept
+pub mod Places
+pub mod SameVerdict

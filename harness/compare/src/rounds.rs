@@ -118,12 +118,51 @@ impl Comparison<'_> {
         limits
     }
 
+    /// The office exported anew, with other numbers of points and triangles and other first corners: the same outlines.
+    fn exported_anew(&mut self, sheet: &Sheet) {
+        let mut anew: Vec<u16> = (0..sheet.points() as u16).collect();
+        self.random.shuffle(&mut anew);
+        let mut other = sheet.clone();
+        for (p, &q) in anew.iter().enumerate() {
+            other.xs[q as usize] = sheet.xs[p];
+            other.ys[q as usize] = sheet.ys[p];
+        }
+        let mut triangles: Vec<&[u16]> = sheet.corners.chunks(3).collect();
+        self.random.shuffle(&mut triangles);
+        other.corners.clear();
+        for triangle in triangles {
+            let first = self.random.below(3);
+            other.corners.extend((0..3).map(|i| anew[triangle[(first + i) % 3] as usize]));
+        }
+        for limit in [0, *self.random.pick(&sheet.squared_lengths())] {
+            let one = self.draw(sheet, limit, Slack::default());
+            let two = self.draw(&other, limit, Slack::default());
+            if let (Ok((tally, memory)), Ok((again, renewed))) = (one, two) {
+                let mut ring: Vec<u16> = memory.ring[..tally.ring].iter().map(|&p| anew[p as usize]).collect();
+                let lowest = (0..ring.len()).min_by_key(|&i| ring[i]).unwrap_or(0);
+                ring.rotate_left(lowest);
+                let good = tally == again && ring[..] == renewed.ring[..again.ring];
+                self.among("an office exported anew has the same outline", &(sheet, &other, limit), &again, &tally, good);
+            }
+        }
+        let one = self.list(sheet, Slack::default());
+        let two = self.list(&other, Slack::default());
+        if let (Ok((n, lists)), Ok((m, renewed))) = (one, two) {
+            let good = n == m
+                && lists.least[..n] == renewed.least[..n]
+                && lists.peeled[..n] == renewed.peeled[..n]
+                && lists.area[..n] == renewed.area[..n];
+            self.among("an office exported anew has the same list", &(sheet, &other), &renewed, &lists, good);
+        }
+    }
+
     /// Everything about one office; `draws` bounds how many limits are tried.
     pub fn office(&mut self, sheet: &Sheet, draws: usize) {
         self.counts.offices += 1;
         let accepted = self.check(sheet).is_ok();
         if accepted {
             self.counts.largest = self.counts.largest.max(sheet.points());
+            self.exported_anew(sheet);
         }
         let slack = self.shorter(3);
         let _ = self.draw(sheet, 0, slack);

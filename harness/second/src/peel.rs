@@ -5,12 +5,12 @@ use crate::{Lent, Lists, Office, Refusal, Second, Tally, Wrong};
 use std::cmp::Ordering;
 use std::collections::BinaryHeap;
 
-/// A rim side that waits in the queue. The greatest squared length stands first, of equal ones the side
-/// with the smaller lower point number, then the smaller higher one.
+/// A rim side that waits in the queue. The greatest squared length stands first, of equal ones the side whose first end
+/// has the smaller x, then the smaller y, and then whose second end has. Of a side's ends the one with smaller x, then smaller y, is the first.
 #[derive(PartialEq, Eq)]
 struct Waiting {
     squared: u32,
-    ties: (u32, u32),
+    ties: [(u16, u16); 2],
     from: u16,
     to: u16,
 }
@@ -78,12 +78,15 @@ impl<'a> Peeling<'a> {
         self.next[from as usize] = to;
         let across = self.office.xs[from as usize].abs_diff(self.office.xs[to as usize]) as u32;
         let up = self.office.ys[from as usize].abs_diff(self.office.ys[to as usize]) as u32;
+        let at = |p: u16| (self.office.xs[p as usize], self.office.ys[p as usize]);
         let ties = if self.rules.is(Wrong::NoTieOrder) {
-            (self.sheet.sides.get((from, to)).unwrap_or(0), from as u32)
+            [(self.sheet.sides.get((from, to)).unwrap_or(0) as u16, from); 2]
         } else if self.rules.is(Wrong::DirectedTieOrder) {
-            (from as u32, to as u32)
+            [at(from), at(to)]
+        } else if self.rules.is(Wrong::TiesByNumbers) {
+            [(from.min(to), from.max(to)); 2]
         } else {
-            (from.min(to) as u32, from.max(to) as u32)
+            [at(from).min(at(to)), at(from).max(at(to))]
         };
         self.queue.push(Waiting { squared: across * across + up * up, ties, from, to });
     }

@@ -5,8 +5,10 @@ pub enum Wrong {
     AtLeastTheLimit,
     /// Of equal lengths, takes the lower triangle first.
     NoTieOrder,
-    /// Compares the ends of equal lengths as directed, not by the lower number first.
+    /// Compares the ends of equal lengths as directed, not by the first end first.
     DirectedTieOrder,
+    /// Of equal lengths, goes by point numbers.
+    TiesByNumbers,
     /// Answers the hull for each limit.
     HullAtOnce,
     /// Stops at the first long side that may not be removed.
@@ -62,10 +64,11 @@ pub enum Wrong {
 }
 
 impl Wrong {
-    pub const ALL: [Wrong; 29] = [
+    pub const ALL: [Wrong; 30] = [
         Wrong::AtLeastTheLimit,
         Wrong::NoTieOrder,
         Wrong::DirectedTieOrder,
+        Wrong::TiesByNumbers,
         Wrong::HullAtOnce,
         Wrong::StopsAtLongSide,
         Wrong::ForgetsBaredCorner,

@@ -41,8 +41,7 @@ returns-3 c =
 goes-before-requires : tie.Need-goes-before-requires
 goes-before-requires c κs =
     let b = c .before .before .before .before .before .before .before .before .before .before .before .before .before .before in
-    let w = b .pre .0 .0 .acceptable .corners-bound in
-    (w .1, w .2, b .pre .0 .1, placed (c .before .found .given .1) (b .pre .1 .1))
+    (b .pre .0 .0 .acceptable, b .pre .0 .1, placed (c .before .found .given .1) (b .pre .1 .1))
 
 returns-4 : tie.Need-returns-4
 returns-4 c =
