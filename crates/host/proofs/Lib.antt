@@ -1,0 +1,5 @@
+pub mod Decoding
+pub mod Rounds
+pub mod Chain
+pub mod Unique
+pub mod Meaning

@@ -1,0 +1,11 @@
+pub mod Putting
+pub mod Spelling
+pub mod Printing
+pub mod Scanning
+pub mod Words
+pub mod Laying
+pub mod Parsing
+pub mod Grammar
+pub mod ReadBack
+pub mod Examples
+pub mod Unique
