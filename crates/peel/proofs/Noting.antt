@@ -3,7 +3,7 @@ use mathlib.Core.Path.{_≡_, refl, sym, ap, ap₂, _∙_}
 use mathlib.Core.Bool.{Bool, true, false, cond}
 use mathlib.Core.List.{List, [], _∷_, map}
 use mathlib.Core.Option.{Option, none, some}
-use Prim.Native.Nat.{ℕ, suc, _+_, _-_, _/_, _<_, _≤_}
+use Prim.Native.Nat.{ℕ, zero, suc, _+_, _-_, _/_, _<_, _≤_}
 use native.Mathlib.Omega.{arith}
 use lib.Dec.{ltb}
 use lib.ListN.{length, set, length-set}
@@ -16,7 +16,7 @@ use Rattle.peel.specs.List.{Entry, outline, listed, entries-from}
 use Rattle.peel.specs.Code.{front, State, Stepped, Noted, answered, peels-of}
 use Rattle.peel.specs.declared.answers.Step.{Step}
 use Rattle.peel.specs.declared.answers.Step.the-variants.{Peeled, Nothing as Stays}
-use Rattle.peel.proofs.Long.{long-positive}
+use Rattle.peel.proofs.Long.{long-bound, long-positive}
 use Rattle.peel.proofs.Reached.{sound}
 use Rattle.peel.proofs.TopSide.{Top, best-top}
 use Rattle.peel.proofs.Onward.{not-all}
@@ -60,10 +60,29 @@ pub record Noting (o : Office) (es : List Entry) (kept : List ℕ) (peeled short
   pub rooms : (length es ≤ length least) × (length es ≤ length peels) × (length es ≤ length areas)
   pub longs : (length least ≡ length least₀) × (length peels ≡ length peeled₀) × (length areas ≡ length area₀)
 
-pub notes : (o : Office) (kept : List ℕ) (begun : ℕ) (least peels areas : List ℕ)
+-- every side is shorter than the greatest limit, so a search that begins there lists the same
+begins-low : {o : Office} → Acceptable o → (n : ℕ) (k : List ℕ) → entries-from o n 4294967295 k ≡ entries-from o n 4294967296 k
+unfolding entries-from listed
+begins-low {o} a zero k = refl
+begins-low {o} a (suc n) k = step (best o k) (best-top a k)
+  where
+    step : (x : Option ℕ) → Top a k (sides o) x → listed o (entries-from o n) 4294967295 k x ≡ listed o (entries-from o n) 4294967296 k x
+    step none t = refl
+    step (some s) t = let b = long-bound a s (t .0) in rw (lt-ltb (long o s) 4294967295 (omega arith), lt-ltb (long o s) 4294967296 (omega arith))
+
+pub notes : {o : Office} → Acceptable o → (kept : List ℕ) (begun : ℕ) (least peels areas : List ℕ)
     → (length (entries-from o (triangles o - begun) 4294967296 (front (o .corners) kept)) ≤ length least) × (length (entries-from o (triangles o - begun) 4294967296 (front (o .corners) kept)) ≤ length peels) × (length (entries-from o (triangles o - begun) 4294967296 (front (o .corners) kept)) ≤ length areas)
-    → Noting o (entries-from o (triangles o - begun) 4294967296 (front (o .corners) kept)) kept begun 4294967296 0 least peels areas least peels areas
-notes o kept begun least peels areas r = record { counts = omega arith; leasts = refl; peels-so = refl; areas-so = refl; rooms = r; longs = (refl, refl, refl) }
+    → Noting o (entries-from o (triangles o - begun) 4294967296 (front (o .corners) kept)) kept begun 4294967295 0 least peels areas least peels areas
+notes {o} a kept begun least peels areas r =
+    let e = begins-low a (triangles o - begun) (front (o .corners) kept) in
+    record {
+      counts = let z = ap length e in omega arith;
+      leasts = ap (λ es. sets least 0 (map (λ e. e .least) es)) e;
+      peels-so = ap (λ es. sets peels 0 (map (λ e. e .outline .peels) es)) e;
+      areas-so = ap (λ es. sets areas 0 (map (λ e. e .outline .area) es)) e;
+      rooms = r;
+      longs = (refl, refl, refl);
+    }
 
 module _ {o : Office} {es : List Entry} {mate kept rim kept′ rim′ : List ℕ} {p area ring p′ area′ ring′ m i : ℕ} {least₀ peeled₀ area₀ least peels areas : List ℕ} {answer : Step}
     (s : State o mate kept rim p area ring) (g : Stepped o 0 mate kept rim kept′ rim′ p answer p′ area′ ring′) (h : Noting o es kept p m i least₀ peeled₀ area₀ least peels areas) where

@@ -35,7 +35,7 @@ pub fn list_all(
     ensures { λ r. ⌜ Noted (entries-on (office (now (xs .entry)) (now (ys .entry)) (now (corners .entry))) (now (kept .entry)) (begun .peeled)) (now (least .entry)) (now (peeled .entry)) (now (area .entry)) (now (least .exit)) (now (peeled .exit)) (now (area .exit)) (r .count) ⌝ }
 {
     let mut tally = begun;
-    let mut shortest: u64 = 4294967296;
+    let mut shortest: u32 = 4294967295;
     let mut count: usize = 0;
     loop {
         let p = tally.peeled;
@@ -58,12 +58,11 @@ pub fn list_all(
                 triangle: _,
                 squared,
             } => {
-                let long = squared as u64;
-                if long < shortest {
+                if squared < shortest {
                     least[count] = squared;
                     peeled[count] = p;
                     area[count] = a;
-                    shortest = long;
+                    shortest = squared;
                     count += 1;
                 }
             }

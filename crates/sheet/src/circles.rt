@@ -75,7 +75,7 @@ fn circle_through(ax: u16, ay: u16, bx: u16, by: u16, cx: u16, cy: u16) -> Circl
         c,
         cross(ax, ay, bx, by),
     );
-    let lift = turn(ax, ay, bx, by, cx, cy);
+    let lift = turn(ax, ay, bx, by, cx, cy) as i64;
     Circle {
         across: across,
         up: up,

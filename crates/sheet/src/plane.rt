@@ -33,12 +33,13 @@ pub fn squared(ax: u16, ay: u16, bx: u16, by: u16) -> u32
     x * x + y * y
 }
 
-pub fn turn(ax: u16, ay: u16, bx: u16, by: u16, cx: u16, cy: u16) -> i64
+// Twice the signed area of a triangle, from the differences to its first corner: no product is above 16,383², no sum above 2 · 16,383².
+pub fn turn(ax: u16, ay: u16, bx: u16, by: u16, cx: u16, cy: u16) -> i32
     requires { ⌜ Small (spot ax ay) × Small (spot bx by) × Small (spot cx cy) ⌝ }
     ensures { λ r. ⌜ r ≡ plane.turn (spot ax ay) (spot bx by) (spot cx cy) ⌝ }
 {
-    (bx as i64 - ax as i64) * (cy as i64 - ay as i64)
-        - (by as i64 - ay as i64) * (cx as i64 - ax as i64)
+    (bx as i32 - ax as i32) * (cy as i32 - ay as i32)
+        - (by as i32 - ay as i32) * (cx as i32 - ax as i32)
 }
 
 // Twice the area of a triangle whose corners run counterclockwise.

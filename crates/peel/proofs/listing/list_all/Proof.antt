@@ -53,7 +53,7 @@ pub list-all-spec : {M : Type 1} → statement M
 list-all-spec =
     tie.close
     (tie.spec Inv-loop μ-loop
-    (λ c. (draws _ (c .before .before .before .before .before .before .before .before .pre .0), notes _ _ _ _ _ _ (c .before .before .before .before .before .before .before .before .pre .1)))
+    (λ c. (draws _ (c .before .before .before .before .before .before .before .before .pre .0), notes (c .before .before .before .before .before .before .before .before .pre .0 .held .acceptable) _ _ _ _ _ (c .before .before .before .before .before .before .before .before .pre .1)))
     (λ c κs. c .before .before .loop .inv .0 .state)
     (λ c. search needs)
     (λ c. omega (arith, in-least c, at c .loop .inv .1 .longs, at c .before .before .before .before .before .before .before .before .before .good))
@@ -72,7 +72,6 @@ list-all-spec =
       drew (at c .loop .inv .0) (c .before .before .before .before .before .before .before .step .ensures) (c .enum-told .given .1),
       noted (at c .loop .inv .0 .state) (c .before .before .before .before .before .before .before .step .ensures) (at c .loop .inv .1) (c .enum-told .given .1),
     ))
-    (λ c. search needs)
     (λ c. search needs)
     (λ c. omega (arith, in-least2 c, at2 c .loop .inv .1 .longs, at2 c .before .before .before .before .before .before .before .before .before .good))
     (λ c. in-least2 c)

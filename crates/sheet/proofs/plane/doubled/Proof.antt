@@ -5,7 +5,7 @@ use borrow.Author.Needs.{needs}
 use lib.Dec.{T}
 use lib.IntN.{ℤ, pos, negsuc, natAbs}
 use lib.Signed.{_<ℤ_, nonNeg}
-use mir.Syntax.{w64}
+use mir.Syntax.{w32}
 use mir.Val.{toZ, ofZ}
 use mir.Facts.{toZ-ofZ}
 use Rattle.sheet.specs.Plane.{turn, spot}
@@ -18,8 +18,8 @@ above-nonneg (pos n) h = tt
 above-nonneg (negsuc n) h = absurd (h .lt)
 
 module _ (c : tie.After-turn) where
-  reads : toZ w64 (ofZ w64 (c .turn .result)) ≡ turn (spot (c .before .args .ax) (c .before .args .ay)) (spot (c .before .args .bx) (c .before .args .by)) (spot (c .before .args .cx) (c .before .args .cy))
-  reads = toZ-ofZ {w = w64} (search needs) ∙ c .turn .ensures
+  reads : toZ w32 (ofZ w32 (c .turn .result)) ≡ turn (spot (c .before .args .ax) (c .before .args .ay)) (spot (c .before .args .bx) (c .before .args .by)) (spot (c .before .args .cx) (c .before .args .cy))
+  reads = toZ-ofZ {w = w32} (search needs) ∙ c .turn .ensures
 
 cast-result : tie.Need-cast-result
 cast-result c = (subst (λ z. T (nonNeg z)) (sym (reads c)) (above-nonneg _ (c .before .pre .1)), omega (arith, ap natAbs (reads c), turn-bound (spot (c .before .args .ax) (c .before .args .ay)) (spot (c .before .args .bx) (c .before .args .by)) (spot (c .before .args .cx) (c .before .args .cy)) (c .before .pre .0 .0) (c .before .pre .0 .1) (c .before .pre .0 .2)))

@@ -1,25 +1,25 @@
 -- `sheet::plane::turn` meets its contract: the numbers of its code, in the code's order. Assumes nothing.
 use borrow.Author.Needs.{needs}
-use mir.Syntax.{w64}
+use mir.Syntax.{w32}
 use Rattle.sheet.specs.Plane.{turn}
 use Rattle.laws.proofs.Exact.{Num, apart, minus, times}
 use Rattle.sheet.proofs.plane.turn.Statement.{statement}
 use Rattle.sheet.proofs.plane.turn.Tie as tie
 
 module _ (c : tie.Start) where
-  abbrev ux : Num w64
+  abbrev ux : Num w32
   ux = apart 16383 _ _ (c .pre .1 .0) (c .pre .0 .0) tt
 
-  abbrev uy : Num w64
+  abbrev uy : Num w32
   uy = apart 16383 _ _ (c .pre .1 .1) (c .pre .0 .1) tt
 
-  abbrev vx : Num w64
+  abbrev vx : Num w32
   vx = apart 16383 _ _ (c .pre .2 .0) (c .pre .0 .0) tt
 
-  abbrev vy : Num w64
+  abbrev vy : Num w32
   vy = apart 16383 _ _ (c .pre .2 .1) (c .pre .0 .1) tt
 
-  abbrev all : Num w64
+  abbrev all : Num w32
   all = minus (times ux vy tt) (times uy vx tt) tt
 
 returns : tie.Need-returns
