@@ -138,10 +138,12 @@ impl Comparison<'_> {
             let one = self.draw(sheet, limit, Slack::default());
             let two = self.draw(&other, limit, Slack::default());
             if let (Ok((tally, memory)), Ok((again, renewed))) = (one, two) {
-                let mut ring: Vec<u16> = memory.ring[..tally.ring].iter().map(|&p| anew[p as usize]).collect();
+                // A wrong program may claim more than it was lent, and may leave numbers there that are no points.
+                let used = memory.ring.iter().take(tally.ring);
+                let mut ring: Vec<u16> = used.map(|&p| anew.get(p as usize).copied().unwrap_or(p)).collect();
                 let lowest = (0..ring.len()).min_by_key(|&i| ring[i]).unwrap_or(0);
                 ring.rotate_left(lowest);
-                let good = tally == again && ring[..] == renewed.ring[..again.ring];
+                let good = tally == again && ring.iter().eq(renewed.ring.iter().take(again.ring));
                 self.among("an office exported anew has the same outline", &(sheet, &other, limit), &again, &tally, good);
             }
         }
@@ -149,9 +151,9 @@ impl Comparison<'_> {
         let two = self.list(&other, Slack::default());
         if let (Ok((n, lists)), Ok((m, renewed))) = (one, two) {
             let good = n == m
-                && lists.least[..n] == renewed.least[..n]
-                && lists.peeled[..n] == renewed.peeled[..n]
-                && lists.area[..n] == renewed.area[..n];
+                && lists.least.iter().take(n).eq(renewed.least.iter().take(n))
+                && lists.peeled.iter().take(n).eq(renewed.peeled.iter().take(n))
+                && lists.area.iter().take(n).eq(renewed.area.iter().take(n));
             self.among("an office exported anew has the same list", &(sheet, &other), &renewed, &lists, good);
         }
     }
