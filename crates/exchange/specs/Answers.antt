@@ -1,4 +1,4 @@
--- Document 01, 'Refusal numbers' and 'Polygon bytes', and document 02, 1/13: what is asked of an input, in order, what is answered, and what stands in lent memory
+-- Document 01, 'Refusal numbers' and 'Polygon bytes', and document 02, 1/13 and 3/13: what is asked of an input, in order, what is answered, and what stands in lent memory
 -- afterwards. Assumes nothing.
 use Prim.Native.Nat.{ℕ}
 use mathlib.Core.Bool.{Bool, cond}
@@ -12,8 +12,12 @@ use Rattle.exchange.specs.declared.Reading.{Reading}
 use Rattle.exchange.specs.declared.Reading.the-variants.{Ring, Refused as Unread}
 use Rattle.exchange.specs.declared.Surveyed.{Surveyed}
 use Rattle.exchange.specs.declared.Surveyed.the-variants.{Points, Refused as Unsurveyed}
+use Rattle.exchange.specs.declared.District.{District}
+use Rattle.exchange.specs.declared.District.the-variants.{Rings, Refused as Undivided}
 use Rattle.exchange.specs.declared.Judged.{Judged}
 use Rattle.exchange.specs.declared.Judged.the-variants.{As, Refused as Unjudged}
+use Rattle.exchange.specs.declared.districts.Scan.{Scan}
+use Rattle.exchange.specs.declared.districts.Scan.the-variants.{To, Refused as Unscanned}
 use Rattle.exchange.specs.declared.reader.Fault.{Fault}
 use Rattle.exchange.specs.declared.reader.Fault.the-variants.{Nothing, At}
 
@@ -61,6 +65,11 @@ abbrev pub surveyed : Surveyed → Answer ℕ
 surveyed (Points n) = gives n
 surveyed (Unsurveyed r) = refusal r
 
+-- the number of rings
+abbrev pub districted : District → Answer ℕ
+districted (Rings n) = gives n
+districted (Undivided r) = refusal r
+
 -- the coordinate that stands there
 abbrev pub judged : Judged → Answer Coordinate
 judged (As c) = gives c
@@ -70,3 +79,8 @@ judged (Unjudged r) = refusal r
 abbrev pub faulty : Fault → Answer (Unit {0})
 faulty Nothing = gives tt
 faulty (At r) = refusal r
+
+-- where polygons one after another end
+abbrev pub scanned-to : Scan → Answer ℕ
+scanned-to (To end) = gives end
+scanned-to (Unscanned r) = refusal r

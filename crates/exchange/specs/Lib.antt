@@ -7,3 +7,5 @@ pub mod Reading
 pub mod Points
 pub mod Refusals
 pub mod PointRefusals
+pub mod Districts
+pub mod DistrictRefusals

@@ -1,7 +1,8 @@
-// Layer 3, polygon bytes: write a ring, read a ring, judge one coordinate; and surveyors' point files. Document 01, 'Polygon bytes', and
-// document 02, 1/13.
+// Layer 3, polygon bytes: write a ring, read a ring, judge one coordinate; surveyors' point files; and district files. Document 01, 'Polygon
+// bytes', and document 02, 1/13 and 3/13.
 // No call asks anything of its caller, and a refusal writes nothing.
 mod coordinates;
+mod districts;
 mod numbers;
 mod points;
 mod reader;
@@ -11,11 +12,12 @@ use sheet::Refusal;
 ghost use mathlib.Core.Path.{_≡_};
 ghost use Prim.Native.Nat.{min};
 ghost use lib.ListN.{length};
-ghost use Rattle.exchange.specs.Answers.{written, reading, surveyed, judged, over};
+ghost use Rattle.exchange.specs.Answers.{written, reading, surveyed, districted, judged, over};
 ghost use Rattle.exchange.specs.Coordinates.{judgement};
 ghost use Rattle.exchange.specs.Writing.{polygon, writing};
 ghost use Rattle.exchange.specs.Reading.{read-answer, xs-at, ys-at};
 ghost use Rattle.exchange.specs.Points.{points-answer, points-xs, points-ys, sent-answer};
+ghost use Rattle.exchange.specs.Districts.{district, district-writing, district-answer, district-lengths, district-xs, district-ys};
 
 // A coordinate as read: a grid number, a finite value off the grid as it was read, or not a finite number.
 pub enum Coordinate {
@@ -45,6 +47,12 @@ pub enum Reading {
 // The count of points.
 pub enum Surveyed {
     Points(usize),
+    Refused(Refusal),
+}
+
+// The number of rings.
+pub enum District {
+    Rings(usize),
     Refused(Refusal),
 }
 
@@ -139,4 +147,46 @@ pub fn sent(block: &[u8], place: usize) -> Judged
         return points::unjudged(20, place);
     }
     Judged::As(coordinates::coordinate_at(block, order, place))
+}
+
+// Writes the rings of a district, one after another in the lists, as a MultiPolygon, all little-endian, at the front of the output. Bytes past it
+// stay as they were.
+pub fn write_district(xs: &[u16], ys: &[u16], lengths: &[u16], out: &mut [u8]) -> Written
+    ensures { λ r. ⌜ written r ≡ district-writing (now (xs .entry)) (now (ys .entry)) (now (lengths .entry)) (length (now (out .entry))) ⌝ }
+    ensures { λ r. ⌜ now (out .exit) ≡ over (written r) (district (now (lengths .entry)) (now (xs .entry)) (now (ys .entry))) (now (out .entry)) ⌝ }
+{
+    if !districts::is_count(lengths.len()) {
+        return writer::refused(35);
+    }
+    if districts::total(lengths) != xs.len() {
+        return writer::refused(36);
+    }
+    if !districts::are_rings(xs, ys, lengths) {
+        return writer::refused(30);
+    }
+    if !writer::are_low(xs, ys) {
+        return writer::refused(31);
+    }
+    let size = 9 + (29 * lengths.len() + 16 * xs.len());
+    if out.len() < size {
+        return writer::refused(32);
+    }
+    districts::put_district(xs, ys, lengths, out);
+    Written::Bytes(size)
+}
+
+// Reads a MultiPolygon into the fronts of the lists, each polygon in its own byte order: the rings one after another, without the repeated
+// positions, and their lengths. Places past them stay as they were.
+pub fn read_district(block: &[u8], xs: &mut [u16], ys: &mut [u16], lengths: &mut [u16]) -> District
+    ensures { λ r. ⌜ districted r ≡ district-answer (now (block .entry)) (length (now (lengths .entry))) (min (length (now (xs .entry))) (length (now (ys .entry)))) ⌝ }
+    ensures { λ r. ⌜ now (xs .exit) ≡ over (districted r) (district-xs (now (block .entry))) (now (xs .entry)) ⌝ }
+    ensures { λ r. ⌜ now (ys .exit) ≡ over (districted r) (district-ys (now (block .entry))) (now (ys .entry)) ⌝ }
+    ensures { λ r. ⌜ now (lengths .exit) ≡ over (districted r) (district-lengths (now (block .entry))) (now (lengths .entry)) ⌝ }
+{
+    let found = districts::district_at(block, lengths.len(), reader::lesser(xs.len(), ys.len()));
+    let District::Rings(n) = found else {
+        return found;
+    };
+    districts::fill_parts(block, 9, n, xs, ys, lengths);
+    District::Rings(n)
 }
