@@ -200,7 +200,14 @@ fn fill_part(s: &[u8], at: usize, xs: &mut [u16], ys: &mut [u16]) -> usize
 
 // Fills the fronts of the lists with the rings of k polygons one after another from a place on, each into the rest after the one before it,
 // and with their lengths.
-pub fn fill_parts(s: &[u8], at: usize, k: usize, xs: &mut [u16], ys: &mut [u16], lengths: &mut [u16])
+pub fn fill_parts(
+    s: &[u8],
+    at: usize,
+    k: usize,
+    xs: &mut [u16],
+    ys: &mut [u16],
+    lengths: &mut [u16],
+)
     requires { ⌜ gives (parts-end (now s) k at) ≡ asked (parts-asks (now s) k at (min (length (now xs)) (length (now ys)))) (parts-end (now s) k at) ⌝ }
     requires { ⌜ k ≤ length (now lengths) ⌝ }
     ensures { λ _. ⌜ now (xs .exit) ≡ sets (now (xs .entry)) 0 (parts-xs (now (s .entry)) k at) ⌝ }
