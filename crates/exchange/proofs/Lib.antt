@@ -23,5 +23,6 @@ pub mod PointsReadBack
 pub mod Refused
 pub mod ReadExactly
 pub mod WriteExactly
+pub mod DistrictExactly
 pub mod Unique
 pub mod RoundTrip

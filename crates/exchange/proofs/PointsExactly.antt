@@ -14,7 +14,7 @@ use Rattle.exchange.specs.Refusals.{Good, Bad}
 use Rattle.exchange.specs.PointRefusals.{GoodPoint, GoodPointsHead, Pointed, PointFault, other-shape, bad-x, bad-y, PointsFault, other-size, bad-point, left-over, PointsTaken}
 use Rattle.exchange.proofs.Asking.{fault, passes-all, stops-first, refused-other, ask-cases, part-cases}
 use Rattle.exchange.proofs.Heads.{passed-one, passed-all, passed-both}
-use Rattle.exchange.proofs.Runs.{nothing-left, Exact, coordinate-exact, all-fine, fine-all, first-bad, bad-first}
+use Rattle.exchange.proofs.Runs.{nothing-left, Exact, coordinate-exact, steps, all-fine, fine-all, first-bad, bad-first}
 use Rattle.exchange.proofs.Shapes.{typed, typed-passes, type-fault, type-refuses, sized-passes, size-fault, size-refuses}
 use Rattle.exchange.proofs.PointFiles.{size-refused, size-passed, points-head, point-refused, points-passed, points-good, bytes-left, all-read}
 
@@ -92,14 +92,14 @@ module _ (s : List ℕ) (room : ℕ) where
   pointed : gives m ≡ asked (points-asks s room) m → Pointed s room m
   pointed e =
       let r = points-good s room m e in
-      (r .head, all-fine 21 (point-asks s) (GoodPoint s) (PointFault s) (point-exact s) m 9 (r .fine))
+      (r .head, all-fine (point-asks s) (steps 21 (point-asks s)) (GoodPoint s) (PointFault s) (point-exact s) m 9 (r .fine))
 
   head-given : GoodPointsHead s room → gives m ≡ asked (points-head-asks s room) m
   head-given h = size-passed s room (typed-passes s 0 4 22 (h .0)) (sized-passes 0 (order-at s 0) s 5 room (h .1))
 
   points-given : Pointed s room m → gives m ≡ asked (points-asks s room) m
   points-given h =
-      points-passed s room m (head-given (h .0)) (fine-all 21 (point-asks s) (GoodPoint s) (PointFault s) (point-exact s) m 9 (h .1))
+      points-passed s room m (head-given (h .0)) (fine-all (point-asks s) (steps 21 (point-asks s)) (GoodPoint s) (PointFault s) (point-exact s) m 9 (h .1))
 
   from-head : {n p : ℕ} → refused n p ≡ asked (points-head-asks s room) m → PointsFault s room n p
   from-head {n} {p} e =
@@ -113,7 +113,7 @@ module _ (s : List ℕ) (room : ℕ) where
       (λ r.
       part-cases (points-head-asks s room) all m m r from-head
       (λ g q.
-      let f = first-bad 21 (point-asks s) (GoodPoint s) (PointFault s) (point-exact s) m 9 n p (refused-other all m (tt {0}) n p q refl) in
+      let f = first-bad (point-asks s) (steps 21 (point-asks s)) (GoodPoint s) (PointFault s) (point-exact s) m 9 n p (refused-other all m (tt {0}) n p q refl) in
       bad-point (f .i) (f .within) (points-head s room m g, f .before) (f .bad)))
       (λ g r.
       ask-cases (PointsFault s room) (leb (length s) (points-end s)) 28 (points-end s) [] m r
@@ -131,7 +131,7 @@ module _ (s : List ℕ) (room : ℕ) where
   refused-from {n} {p} (bad-point i l h f) =
       stops-first (points-asks s room) last-question m m n p
       (point-refused s room m (head-given (h .0)) n p
-      (bad-first 21 (point-asks s) (GoodPoint s) (PointFault s) (point-exact s) i m 9 n p l (h .1) f)) refl
+      (bad-first (point-asks s) (steps 21 (point-asks s)) (GoodPoint s) (PointFault s) (point-exact s) i m 9 n p l (h .1) f)) refl
   refused-from (left-over h l) = bytes-left s room m (points-given h) l refl
 
 -- THE READER REFUSES with a number and a place exactly when that is the file's first fault

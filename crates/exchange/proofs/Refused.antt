@@ -14,7 +14,7 @@ use Rattle.exchange.specs.Coordinates.{gridAt, whole}
 use Rattle.exchange.specs.Reading.{coordinate-asks, coordinates, count, size-asks, type-asks, order-at, length-at, last, head-asks, closes, polygon-asks}
 use Rattle.exchange.specs.Refusals.{Good, Typed, OneRing, GoodHead, Gridded, SameX, SameY, PolygonFault, other-shape, no-rings, other-rings, other-size, bad-coordinate, left-open}
 use Rattle.exchange.proofs.Asking.{stops, passes, stops-above, passes-below, passes-all, stops-first, ask-cases, part-cases}
-use Rattle.exchange.proofs.Runs.{nothing-left, BadAt, coordinate-exact, all-good, fine-all, first-bad, bad-first}
+use Rattle.exchange.proofs.Runs.{nothing-left, BadAt, coordinate-exact, all-good, steps, fine-all, first-bad, bad-first}
 use Rattle.exchange.proofs.Shapes.{not-both, either-fails, typed, typed-passes, type-fault, type-refuses, sized, sized-passes, size-fault, size-refuses}
 
 module _ (s : List ℕ) (at room : ℕ) where
@@ -45,7 +45,7 @@ module _ (s : List ℕ) (at room : ℕ) where
   from-runs {n} {p} h e =
       part-cases runs (closes s at ∷ []) tt m e
       (λ r.
-      let f = first-bad 8 (coordinate-asks o s) (Good o s) (BadAt o s) (coordinate-exact o s) (2 * c) (at + 13) n p r in
+      let f = first-bad (coordinate-asks o s) (steps 8 (coordinate-asks o s)) (Good o s) (BadAt o s) (coordinate-exact o s) (2 * c) (at + 13) n p r in
       subst (Fault n) (sym (f .bad .1)) (bad-coordinate (f .i) (f .within) (h, f .before) n (f .bad .0)))
       (λ g r.
       let all : Gridded s at room (2 * c) = (h, all-good o s (2 * c) (at + 13) g) in
@@ -90,7 +90,7 @@ module _ (s : List ℕ) (at room : ℕ) where
   pub pass-runs : {x : Answer ℕ} → Gridded s at room (2 * c) → x ≡ asked (closes s at ∷ []) m → x ≡ asked (polygon-asks s at room) m
   pass-runs h e =
       pass-head (h .0) _ (passes-all runs (closes s at ∷ []) tt m
-      (fine-all 8 (coordinate-asks o s) (Good o s) (BadAt o s) (coordinate-exact o s) (2 * c) (at + 13) (h .1)) e)
+      (fine-all (coordinate-asks o s) (steps 8 (coordinate-asks o s)) (Good o s) (BadAt o s) (coordinate-exact o s) (2 * c) (at + 13) (h .1)) e)
 
   pub from-fault : {n p : ℕ} → Fault n p → refused n p ≡ asked (polygon-asks s at room) m
   from-fault {n} {p} (other-shape f) = stops-first (type-asks s at 3 22) _ tt m n p (type-refuses s at 3 22 f) refl
@@ -99,7 +99,7 @@ module _ (s : List ℕ) (at room : ℕ) where
   from-fault {n} {p} (other-size h f) = pass-rings h _ (stops-first sizes _ tt m n p (size-refuses 1 o s (at + 9) room f) refl)
   from-fault (bad-coordinate i l h number b) =
       pass-head (h .0) _ (stops-first runs (closes s at ∷ []) tt m number (at + 13 + 8 * i)
-      (bad-first 8 (coordinate-asks o s) (Good o s) (BadAt o s) (coordinate-exact o s) i (2 * c) (at + 13) number (at + 13 + 8 * i) l (h .1) (b, refl)) refl)
+      (bad-first (coordinate-asks o s) (steps 8 (coordinate-asks o s)) (Good o s) (BadAt o s) (coordinate-exact o s) i (2 * c) (at + 13) number (at + 13 + 8 * i) l (h .1) (b, refl)) refl)
   from-fault (left-open h f) =
       pass-runs h (stops _ _ _ _ _
       (either-fails (eqb (gridAt o s (at + 13)) (gridAt o s (last s at))) (eqb (gridAt o s (at + 13 + 8)) (gridAt o s (last s at + 8)))

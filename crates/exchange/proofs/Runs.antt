@@ -1,8 +1,8 @@
--- A run of fields or shapes in plain logic: all are good, or the first bad one has its number and its place. Assumes nothing.
+-- Fields or shapes one after another in plain logic: all are good, or the first bad one has its number and its place. Assumes nothing.
 use Prim.Native.Nat.{ℕ, zero, suc, _+_, _*_, _<_, _≤_, suc-le-suc, zero-le}
 use mathlib.Core.Path.{_≡_, refl, sym, ap, _∙_, subst}
 use mathlib.Core.Bool.{Bool, true, false}
-use mathlib.Core.List.{List, []}
+use mathlib.Core.List.{List, [], _++_}
 use native.Mathlib.Omega.{arith}
 use native.Mathlib.Nat.{le-of-suc-le-suc}
 use borrow.Author.Tests.{leb-true, leb-false}
@@ -15,7 +15,7 @@ use Rattle.exchange.specs.Coordinates.{coordinateAt, refusalOf, onGrid}
 use Rattle.exchange.specs.Reading.{run, coordinate-asks}
 use Rattle.exchange.specs.Refusals.{Good, Bad, cut, not-finite, off-grid}
 use Rattle.exchange.proofs.Asking.{fault, ask-cases, ends, passes-all, stops-first, part-cases}
-use Rattle.exchange.proofs.Scanned.{ran, ran-none, scanned, cut-short, faulty-there, fine-there, no-more}
+use Rattle.exchange.proofs.Scanned.{scanned, cut-short, faulty-there, fine-there, no-more}
 use Rattle.exchange.proofs.Heads.{passed-both, coordinate-passed}
 
 -- the end of a list of questions refuses nothing
@@ -23,84 +23,107 @@ pub nothing-left : {A : Type 0} {n p : ℕ} (a : A) → refused n p ≡ asked []
 nothing-left {A} {n} {p} a e = let z : gives a ≡ refused n p = sym (e ∙ sym (ends a refl)) in let q : _≡_ {A = ℕ} 0 1 = cc in absurd (omega arith)
 
 -- what is asked at a place says exactly whether what stands there is good, or with which number and place it is bad
-pub record Exact (asks : ℕ → List Question) (Fine : ℕ → Type 0) (Wrong : ℕ → ℕ → ℕ → Type 0) : Type 0 where
-  pub is-fine : (at : ℕ) → gives tt ≡ fault (asks at) → Fine at
-  pub fine-is : (at : ℕ) → Fine at → gives tt ≡ fault (asks at)
-  pub is-wrong : (at number place : ℕ) → refused number place ≡ fault (asks at) → Wrong at number place
-  pub wrong-is : (at number place : ℕ) → Wrong at number place → refused number place ≡ fault (asks at)
+pub record Exact {At : Type 0} (asks : At → List Question) (Fine : At → Type 0) (Wrong : At → ℕ → ℕ → Type 0) : Type 0 where
+  pub is-fine : (at : At) → gives tt ≡ fault (asks at) → Fine at
+  pub fine-is : (at : At) → Fine at → gives tt ≡ fault (asks at)
+  pub is-wrong : (at : At) (number place : ℕ) → refused number place ≡ fault (asks at) → Wrong at number place
+  pub wrong-is : (at : At) (number place : ℕ) → Wrong at number place → refused number place ≡ fault (asks at)
+
+-- things one after another: what is asked of k of them from a place on, and the place of the i-th
+pub record Row {At : Type 0} (asks : At → List Question) : Type 0 where
+  pub next : At → At
+  pub nth : ℕ → At → At
+  pub all : ℕ → At → List Question
+  pub here : (at : At) → at ≡ nth 0 at
+  pub later : (at : At) (i : ℕ) → nth i (next at) ≡ nth (suc i) at
+  pub none : (at : At) → all 0 at ≡ []
+  pub more : (k : ℕ) (at : At) → all (suc k) at ≡ asks at ++ all k (next at)
 
 -- the first fault of k things: the i-th is bad and those before it are good
-pub record FirstBad (step : ℕ) (Fine : ℕ → Type 0) (Wrong : ℕ → ℕ → ℕ → Type 0) (k at number place : ℕ) : Type 0 where
+pub record FirstBad {At : Type 0} (nth : ℕ → At → At) (Fine : At → Type 0) (Wrong : At → ℕ → ℕ → Type 0) (k : ℕ) (at : At) (number place : ℕ) : Type 0 where
   pub i : ℕ
   pub within : i < k
-  pub before : (j : ℕ) → j < i → Fine (at + step * j)
-  pub bad : Wrong (at + step * i) number place
+  pub before : (j : ℕ) → j < i → Fine (nth j at)
+  pub bad : Wrong (nth i at) number place
 
-module _ (step : ℕ) (asks : ℕ → List Question) (Fine : ℕ → Type 0) (Wrong : ℕ → ℕ → ℕ → Type 0) (exact : Exact asks Fine Wrong) where
-  -- the place i + 1 is place i of the rest
-  later : (at i : ℕ) → at + step + step * i ≡ at + step * suc i
-  later at i = omega arith
+module _ {At : Type 0} (asks : At → List Question) (r : Row asks) (Fine : At → Type 0) (Wrong : At → ℕ → ℕ → Type 0) (exact : Exact asks Fine Wrong) where
+  -- the thing i + 1 is thing i of the rest
+  fines : (k : ℕ) (at : At) → Fine at → ((j : ℕ) → j < k → Fine (r .nth j (r .next at))) → (j : ℕ) → j < suc k → Fine (r .nth j at)
+  fines k at g f zero l = subst Fine (r .here at) g
+  fines k at g f (suc j) l = subst Fine (r .later at j) (f j (le-of-suc-le-suc l))
 
-  here : (at : ℕ) → at ≡ at + step * 0
-  here at = omega arith
+  first-fine : (k : ℕ) (at : At) → ((j : ℕ) → j < suc k → Fine (r .nth j at)) → Fine at
+  first-fine k at f = subst Fine (sym (r .here at)) (f 0 (suc-le-suc zero-le))
 
-  fines : (k at : ℕ) → Fine at → ((j : ℕ) → j < k → Fine (at + step + step * j)) → (j : ℕ) → j < suc k → Fine (at + step * j)
-  fines k at g f zero l = subst Fine (here at) g
-  fines k at g f (suc j) l = subst Fine (later at j) (f j (le-of-suc-le-suc l))
+  rest-fine : (k : ℕ) (at : At) → ((j : ℕ) → j < suc k → Fine (r .nth j at)) → (j : ℕ) → j < k → Fine (r .nth j (r .next at))
+  rest-fine k at f j l = subst Fine (sym (r .later at j)) (f (suc j) (suc-le-suc l))
 
-  first-fine : (k at : ℕ) → ((j : ℕ) → j < suc k → Fine (at + step * j)) → Fine at
-  first-fine k at f = subst Fine (sym (here at)) (f 0 (suc-le-suc zero-le))
-
-  rest-fine : (k at : ℕ) → ((j : ℕ) → j < suc k → Fine (at + step * j)) → (j : ℕ) → j < k → Fine (at + step + step * j)
-  rest-fine k at f j l = subst Fine (sym (later at j)) (f (suc j) (suc-le-suc l))
+  one-more : (k : ℕ) (at : At) → fault (asks at ++ r .all k (r .next at)) ≡ fault (r .all (suc k) at)
+  one-more k at = ap fault (sym (r .more k at))
 
   -- nothing stands against k of them: all are good
-  pub all-fine : (k at : ℕ) → gives tt ≡ ran step asks k at → (j : ℕ) → j < k → Fine (at + step * j)
-  unfolding run
+  pub all-fine : (k : ℕ) (at : At) → gives tt ≡ fault (r .all k at) → (j : ℕ) → j < k → Fine (r .nth j at)
   all-fine zero at e j l = absurd (omega arith)
   all-fine (suc k) at e j l =
-      let q = passed-both (asks at) (run step asks k (at + step)) tt tt e in
-      fines k at (exact .is-fine at (q .0)) (all-fine k (at + step) (q .1)) j l
+      let q = passed-both (asks at) (r .all k (r .next at)) (tt {0}) (tt {0}) (e ∙ sym (one-more k at)) in
+      fines k at (exact .is-fine at (q .0)) (all-fine k (r .next at) (q .1)) j l
 
-  pub fine-all : (k at : ℕ) → ((j : ℕ) → j < k → Fine (at + step * j)) → gives tt ≡ ran step asks k at
-  unfolding run
-  fine-all zero at f = ends tt refl
+  pub fine-all : (k : ℕ) (at : At) → ((j : ℕ) → j < k → Fine (r .nth j at)) → gives tt ≡ fault (r .all k at)
+  fine-all zero at f = ends (tt {0}) refl ∙ ap fault (sym (r .none at))
   fine-all (suc k) at f =
-      passes-all (asks at) (run step asks k (at + step)) tt tt (exact .fine-is at (first-fine k at f)) (fine-all k (at + step) (rest-fine k at f))
+      passes-all (asks at) (r .all k (r .next at)) (tt {0}) (tt {0}) (exact .fine-is at (first-fine k at f)) (fine-all k (r .next at) (rest-fine k at f)) ∙ one-more k at
 
-  bad-now : (k at number place : ℕ) → Wrong at number place → FirstBad step Fine Wrong (suc k) at number place
+  bad-now : (k : ℕ) (at : At) (number place : ℕ) → Wrong at number place → FirstBad (r .nth) Fine Wrong (suc k) at number place
   bad-now k at number place b = record {
     i = 0;
     within = suc-le-suc zero-le;
     before = λ j l. absurd (omega arith);
-    bad = subst (λ (p : ℕ). Wrong p number place) (here at) b;
+    bad = subst (λ (p : At). Wrong p number place) (r .here at) b;
   }
 
-  bad-later : (k at number place : ℕ) → Fine at → FirstBad step Fine Wrong k (at + step) number place → FirstBad step Fine Wrong (suc k) at number place
+  bad-later : (k : ℕ) (at : At) (number place : ℕ) → Fine at → FirstBad (r .nth) Fine Wrong k (r .next at) number place → FirstBad (r .nth) Fine Wrong (suc k) at number place
   bad-later k at number place g f = record {
     i = suc (f .i);
     within = suc-le-suc (f .within);
     before = fines (f .i) at g (f .before);
-    bad = subst (λ (p : ℕ). Wrong p number place) (later at (f .i)) (f .bad);
+    bad = subst (λ (p : At). Wrong p number place) (r .later at (f .i)) (f .bad);
   }
 
-  pub first-bad : (k at number place : ℕ) → refused number place ≡ ran step asks k at → FirstBad step Fine Wrong k at number place
-  unfolding run
-  first-bad zero at number place e = absurd (nothing-left tt e)
+  pub first-bad : (k : ℕ) (at : At) (number place : ℕ) → refused number place ≡ fault (r .all k at) → FirstBad (r .nth) Fine Wrong k at number place
+  first-bad zero at number place e = absurd (nothing-left (tt {0}) (e ∙ ap fault (r .none at)))
   first-bad (suc k) at number place e =
-      part-cases (asks at) (run step asks k (at + step)) tt tt e
-      (λ r. bad-now k at number place (exact .is-wrong at number place r))
-      (λ g r. bad-later k at number place (exact .is-fine at g) (first-bad k (at + step) number place r))
+      part-cases (asks at) (r .all k (r .next at)) (tt {0}) (tt {0}) (e ∙ sym (one-more k at))
+      (λ f. bad-now k at number place (exact .is-wrong at number place f))
+      (λ g f. bad-later k at number place (exact .is-fine at g) (first-bad k (r .next at) number place f))
 
-  pub bad-first : (i k at number place : ℕ) → i < k → ((j : ℕ) → j < i → Fine (at + step * j)) → Wrong (at + step * i) number place → refused number place ≡ ran step asks k at
-  unfolding run
+  pub bad-first : (i k : ℕ) (at : At) (number place : ℕ) → i < k → ((j : ℕ) → j < i → Fine (r .nth j at)) → Wrong (r .nth i at) number place → refused number place ≡ fault (r .all k at)
   bad-first i zero at number place l f b = absurd (omega arith)
   bad-first zero (suc k) at number place l f b =
-      stops-first (asks at) (run step asks k (at + step)) tt tt number place
-      (exact .wrong-is at number place (subst (λ (p : ℕ). Wrong p number place) (sym (here at)) b)) refl
+      stops-first (asks at) (r .all k (r .next at)) (tt {0}) (tt {0}) number place
+      (exact .wrong-is at number place (subst (λ (p : At). Wrong p number place) (sym (r .here at)) b)) refl ∙ one-more k at
   bad-first (suc i) (suc k) at number place l f b =
-      passes-all (asks at) (run step asks k (at + step)) tt tt (exact .fine-is at (first-fine i at f))
-      (bad-first i k (at + step) number place (le-of-suc-le-suc l) (rest-fine i at f) (subst (λ (p : ℕ). Wrong p number place) (sym (later at i)) b))
+      passes-all (asks at) (r .all k (r .next at)) (tt {0}) (tt {0}) (exact .fine-is at (first-fine i at f))
+      (bad-first i k (r .next at) number place (le-of-suc-le-suc l) (rest-fine i at f) (subst (λ (p : At). Wrong p number place) (sym (r .later at i)) b)) ∙ one-more k at
+
+-- one in each `step` bytes
+pub run-none : (step : ℕ) (asks : ℕ → List Question) (at : ℕ) → run step asks 0 at ≡ []
+unfolding run
+run-none step asks at = refl
+
+pub run-more : (step : ℕ) (asks : ℕ → List Question) (k at : ℕ) → run step asks (suc k) at ≡ asks at ++ run step asks k (at + step)
+unfolding run
+run-more step asks k at = refl
+
+abbrev pub steps : (step : ℕ) (asks : ℕ → List Question) → Row asks
+steps step asks = record {
+  next = λ at. at + step;
+  nth = λ i at. at + step * i;
+  all = run step asks;
+  here = λ at. omega arith;
+  later = λ at i. omega arith;
+  none = run-none step asks;
+  more = run-more step asks;
+}
 
 -- ---- coordinates
 
@@ -146,4 +169,4 @@ module _ (order : ℕ) (s : List ℕ) where
   }
 
   pub all-good : (k at : ℕ) → gives tt ≡ scanned k order s at → (j : ℕ) → j < k → Good order s (at + 8 * j)
-  all-good = all-fine 8 (coordinate-asks order s) (Good order s) (BadAt order s) coordinate-exact
+  all-good = all-fine (coordinate-asks order s) (steps 8 (coordinate-asks order s)) (Good order s) (BadAt order s) coordinate-exact

@@ -12,13 +12,16 @@ use Rattle.exchange.specs.declared.Reading.{Reading}
 use Rattle.exchange.specs.declared.Reading.the-variants.{Ring, Refused as Unread}
 use Rattle.exchange.specs.declared.Surveyed.{Surveyed}
 use Rattle.exchange.specs.declared.Surveyed.the-variants.{Points, Refused as Unsurveyed}
+use Rattle.exchange.specs.declared.District.{District}
+use Rattle.exchange.specs.declared.District.the-variants.{Rings, Refused as Undivided}
 use Rattle.exchange.specs.declared.Judged.{Judged}
 use Rattle.exchange.specs.declared.Judged.the-variants.{As, Refused as Unjudged}
-use Rattle.exchange.specs.Answers.{Answer, gives, refused, refusal, written, reading, surveyed, judged, over}
+use Rattle.exchange.specs.Answers.{Answer, gives, refused, refusal, written, reading, surveyed, districted, judged, over}
 use Rattle.exchange.specs.Coordinates.{judgement}
 use Rattle.exchange.specs.Writing.{polygon, writing}
 use Rattle.exchange.specs.Reading.{read-answer, xs-at, ys-at}
 use Rattle.exchange.specs.Points.{points-answer, points-xs, points-ys, sent-answer}
+use Rattle.exchange.specs.Districts.{district, district-writing, district-answer, district-lengths, district-xs, district-ys}
 
 -- an answer's number and values tell which case it is
 same-refusal : {A : Type 0} (a b : Refusal) → refusal {A = A} a ≡ refusal b → a ≡ b
@@ -45,6 +48,12 @@ same-surveyed (Points n) (Unsurveyed b) e = let z : _≡_ {A = ℕ} 0 1 = cc in 
 same-surveyed (Unsurveyed a) (Points m) e = let z : _≡_ {A = ℕ} 0 1 = cc in absurd (omega arith)
 same-surveyed (Unsurveyed a) (Unsurveyed b) e = ap Unsurveyed (same-refusal a b e)
 
+same-district : (r t : District) → districted r ≡ districted t → r ≡ t
+same-district (Rings n) (Rings m) e = cc
+same-district (Rings n) (Undivided b) e = let z : _≡_ {A = ℕ} 0 1 = cc in absurd (omega arith)
+same-district (Undivided a) (Rings m) e = let z : _≡_ {A = ℕ} 0 1 = cc in absurd (omega arith)
+same-district (Undivided a) (Undivided b) e = ap Undivided (same-refusal a b e)
+
 same-judged : (r t : Judged) → judged r ≡ judged t → r ≡ t
 same-judged (As c) (As d) e = cc
 same-judged (As c) (Unjudged b) e = let z : _≡_ {A = ℕ} 0 1 = cc in absurd (omega arith)
@@ -65,6 +74,16 @@ pub record Surveys (block xs ys : List ℕ) (r : Surveyed) (xs-after ys-after : 
   pub answer : surveyed r ≡ points-answer block (min (length xs) (length ys))
   pub list-x : xs-after ≡ over (surveyed r) (points-xs block) xs
   pub list-y : ys-after ≡ over (surveyed r) (points-ys block) ys
+
+pub record WritesDistrict (xs ys lengths out : List ℕ) (r : Written) (after : List ℕ) : Type 0 where
+  pub answer : written r ≡ district-writing xs ys lengths (length out)
+  pub output : after ≡ over (written r) (district lengths xs ys) out
+
+pub record ReadsDistrict (block xs ys lengths : List ℕ) (r : District) (xs-after ys-after lengths-after : List ℕ) : Type 0 where
+  pub answer : districted r ≡ district-answer block (length lengths) (min (length xs) (length ys))
+  pub list-x : xs-after ≡ over (districted r) (district-xs block) xs
+  pub list-y : ys-after ≡ over (districted r) (district-ys block) ys
+  pub list-n : lengths-after ≡ over (districted r) (district-lengths block) lengths
 
 pub write-unique : (xs ys out : List ℕ) (r t : Written) (o p : List ℕ) → Writes xs ys out r o → Writes xs ys out t p → (r ≡ t) × (o ≡ p)
 write-unique xs ys out r t o p a b =
@@ -92,3 +111,19 @@ points-unique block xs ys r t x y u v a b =
 
 pub sent-unique : (block : List ℕ) (place : ℕ) (r t : Judged) → judged r ≡ sent-answer block place → judged t ≡ sent-answer block place → r ≡ t
 sent-unique block place r t a b = same-judged r t (a ∙ sym b)
+
+pub write-district-unique : (xs ys lengths out : List ℕ) (r t : Written) (o p : List ℕ) → WritesDistrict xs ys lengths out r o → WritesDistrict xs ys lengths out t p
+    → (r ≡ t) × (o ≡ p)
+write-district-unique xs ys lengths out r t o p a b =
+    let same : r ≡ t = same-written r t (a .answer ∙ sym (b .answer)) in
+    (same, a .output ∙ ap (λ (v : Written). over (written v) (district lengths xs ys) out) same ∙ sym (b .output))
+
+pub read-district-unique : (block xs ys lengths : List ℕ) (r t : District) (x y n u v m : List ℕ)
+    → ReadsDistrict block xs ys lengths r x y n → ReadsDistrict block xs ys lengths t u v m → (r ≡ t) × (x ≡ u) × (y ≡ v) × (n ≡ m)
+read-district-unique block xs ys lengths r t x y n u v m a b =
+    let same : r ≡ t = same-district r t (a .answer ∙ sym (b .answer)) in (
+      same,
+      a .list-x ∙ ap (λ (w : District). over (districted w) (district-xs block) xs) same ∙ sym (b .list-x),
+      a .list-y ∙ ap (λ (w : District). over (districted w) (district-ys block) ys) same ∙ sym (b .list-y),
+      a .list-n ∙ ap (λ (w : District). over (districted w) (district-lengths block) lengths) same ∙ sym (b .list-n),
+    )

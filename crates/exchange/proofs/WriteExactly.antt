@@ -17,9 +17,7 @@ use Rattle.exchange.specs.Refusals.{Ring, Low, WriteFault, no-ring, too-
 use Rattle.exchange.proofs.Asking.{stops, stops-above, passes, passes-below, ends, ask-cases}
 use Rattle.exchange.proofs.Heads.{passed-one, passed-all}
 use Rattle.exchange.proofs.Lows.{low-exactly}
-
-no-refusal : {A : Type 0} {n p : ℕ} (a : A) → refused n p ≡ asked [] a → ⊥
-no-refusal {A} {n} {p} a r = let z : gives a ≡ refused n p = sym (r ∙ sym (ends a refl)) in let q : _≡_ {A = ℕ} 0 1 = cc in absurd (omega arith)
+use Rattle.exchange.proofs.Runs.{nothing-left}
 
 -- ---- the writer
 
@@ -36,7 +34,7 @@ module _ (xs ys : List ℕ) (room : ℕ) where
     (λ h. and-iff .1 (eq-eqb _ _ (h .0), and-iff .1 (le-leb 3 (length xs) (h .1), le-leb (length xs) 1024 (h .2)))),
   )
 
-  lows-exactly : ((low xs && low ys) ≡ true) ↔ (Low xs × Low ys)
+  pub lows-exactly : ((low xs && low ys) ≡ true) ↔ (Low xs × Low ys)
   lows-exactly = (
     (λ e. let a = and-iff .0 e in (low-exactly xs .0 (a .0), low-exactly ys .0 (a .1))),
     (λ h. and-iff .1 (low-exactly xs .1 (h .0), low-exactly ys .1 (h .1))),
@@ -52,7 +50,7 @@ module _ (xs ys : List ℕ) (room : ℕ) where
       (λ t e. let l = lows-exactly .0 t in
       ask-cases (WriteFault xs ys room) (leb (size (length xs)) room) 32 0 [] _ e
       (λ f. too-short h l (leb-false (size (length xs)) room f))
-      (λ t e. absurd (no-refusal (size (length xs)) e))))
+      (λ t e. absurd (nothing-left (size (length xs)) e))))
 
   from-fault : {n p : ℕ} → WriteFault xs ys room n p → refused n p ≡ writing xs ys room
   from-fault (no-ring f) = stops _ _ _ _ _ (false-iff .1 (λ t. f (ring-exactly .0 t))) refl
@@ -88,7 +86,7 @@ judge-refused-exactly s order at number place = (
       (λ f. other-order (leb-false order 1 f))
       (λ t e. ask-cases (JudgeFault s order at) (leb (at + 8) (length s)) 20 at [] _ e
       (λ f. cut (leb-true order 1 t) (leb-false (at + 8) (length s) f))
-      (λ t e. absurd (no-refusal (coordinateAt order s at) e)))),
+      (λ t e. absurd (nothing-left (coordinateAt order s at) e)))),
   (λ f. sym (back f)),
 )
   where
