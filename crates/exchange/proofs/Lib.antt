@@ -20,6 +20,9 @@ pub mod PointFiles
 pub mod PointsExactly
 pub mod SentExactly
 pub mod PointsReadBack
+pub mod DistrictLaws
+pub mod DistrictReadBack
+pub mod DistrictWriteBack
 pub mod Refused
 pub mod ReadExactly
 pub mod WriteExactly
