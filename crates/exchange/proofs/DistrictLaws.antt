@@ -1,8 +1,8 @@
 -- The rings of a district's file one after another: how long their polygons are, and what the writer and the reader take. Assumes nothing.
-use Prim.Native.Nat.{ℕ, zero, suc, _+_, _*_, _-_, _<_, _≤_, suc-le-suc, zero-le}
+use Prim.Native.Nat.{ℕ, zero, suc, _+_, _*_, _<_, _≤_, suc-le-suc, zero-le}
 use mathlib.Core.Path.{_≡_, refl, sym, ap, _∙_}
 use mathlib.Core.Logic.{_↔_}
-use mathlib.Core.Bool.{Bool, true, false, _&&_}
+use mathlib.Core.Bool.{true, _&&_}
 use mathlib.Core.List.{List, [], _∷_, _++_}
 use native.Mathlib.Omega.{arith}
 use native.Mathlib.Nat.{le-of-suc-le-suc}
@@ -11,14 +11,14 @@ use lib.Dec.{leb, eqb}
 use lib.ListN.{length, take, drop, getD, length-append, length-drop, take-append-drop}
 use lib.Seq.{length-take-le, take-at, drop-at}
 use Rattle.laws.proofs.Test.{and-iff}
-use Rattle.exchange.specs.Answers.{Question, must, Answer, gives, asked}
+use Rattle.exchange.specs.Answers.{must, Answer, gives, asked}
 use Rattle.exchange.specs.Bytes.{inOrder}
 use Rattle.exchange.specs.Writing.{polygon, low}
-use Rattle.exchange.specs.Reading.{order-at, type-asks}
+use Rattle.exchange.specs.Reading.{type-asks}
 use Rattle.exchange.specs.Districts.{polygons, district-head, district-file, total, rings, district-size, district-writing, parts-asks, ring-count, district-end, ring-count-asks, district-head-asks, district-asks, district-answer}
 use Rattle.exchange.specs.Refusals.{Low}
 use Rattle.exchange.specs.DistrictRefusals.{Rings, Divided, GoodDistrictHead}
-use Rattle.exchange.proofs.Asking.{fault, passes, passes-below, ends, passes-all, gives-other, given-is}
+use Rattle.exchange.proofs.Asking.{fault, passes, passes-below, ends, passes-all, gives-other}
 use Rattle.exchange.proofs.Heads.{passed-one, passed-all, passed-both}
 use Rattle.exchange.proofs.Lengths.{order-length, polygon-length}
 use Rattle.exchange.proofs.Lows.{low-parts, low-more, low-none, low-exactly}

@@ -1,5 +1,5 @@
 -- A district's file reads as its rings, whatever byte orders its head and its polygons have. Assumes nothing.
-use Prim.Native.Nat.{ℕ, suc, _+_, _*_, _-_, _^_, _<_, _≤_, suc-le-suc, zero-le}
+use Prim.Native.Nat.{ℕ, suc, _+_, _*_, _-_, _≤_, suc-le-suc, zero-le}
 use mathlib.Core.Path.{_≡_, refl, sym, ap, _∙_}
 use mathlib.Core.Bool.{true}
 use mathlib.Core.List.{List, [], _∷_, _++_, append-assoc, append-nil}
@@ -10,7 +10,7 @@ use lib.Seq.{length-take-le, drop-at, drop-drop}
 use Rattle.exchange.specs.Answers.{gives, asked}
 use Rattle.exchange.specs.Bytes.{inOrder, numberAt}
 use Rattle.exchange.specs.Writing.{polygon, low}
-use Rattle.exchange.specs.Reading.{order-at, length-at, end, polygon-asks, xs-at, ys-at}
+use Rattle.exchange.specs.Reading.{length-at, end, polygon-asks, xs-at, ys-at}
 use Rattle.exchange.specs.Districts.{polygons, district-file, total, rings, parts-asks, parts-end, part-lengths, parts-xs, parts-ys, ring-count, district-end, district-answer, district-lengths, district-xs, district-ys}
 use Rattle.exchange.specs.Refusals.{Low}
 use Rattle.exchange.specs.DistrictRefusals.{Rings}

@@ -1,18 +1,18 @@
 -- A district's file that the reader takes is, byte for byte, the file of its rings in its byte orders: where all are little-endian what the writer
 -- makes. Assumes nothing.
-use Prim.Native.Nat.{ℕ, zero, suc, _+_, _*_, _-_, _^_, _<_, _≤_, suc-le-suc}
+use Prim.Native.Nat.{ℕ, zero, suc, _+_, _*_, _-_, _<_, _≤_, suc-le-suc}
 use mathlib.Core.Path.{_≡_, refl, sym, ap, _∙_}
 use mathlib.Core.Bool.{true}
 use mathlib.Core.List.{List, [], _∷_, _++_, append-assoc, append-nil}
 use native.Mathlib.Omega.{arith}
 use native.Mathlib.Nat.{le-of-suc-le-suc}
-use lib.ListN.{length, drop, getD, replicate, length-append, drop-of-length-le}
+use lib.ListN.{length, drop, replicate, length-append, drop-of-length-le}
 use lib.Seq.{drop-cons}
-use Rattle.exchange.specs.Answers.{gives, asked}
+use Rattle.exchange.specs.Answers.{gives}
 use Rattle.exchange.specs.Bytes.{inOrder}
 use Rattle.exchange.specs.Writing.{polygon, low}
 use Rattle.exchange.specs.Reading.{order-at, length-at, end, polygon-asks, xs-at, ys-at}
-use Rattle.exchange.specs.Districts.{polygons, district-head, district-file, total, rings, parts-asks, parts-end, part-lengths, parts-xs, parts-ys, ring-count, district-end, district-answer, district-lengths, district-xs, district-ys}
+use Rattle.exchange.specs.Districts.{polygons, district-file, total, rings, parts-asks, parts-end, part-lengths, parts-xs, parts-ys, ring-count, district-end, district-answer, district-lengths, district-xs, district-ys}
 use Rattle.exchange.proofs.Asking.{fault}
 use Rattle.exchange.proofs.Heads.{passed-both}
 use Rattle.exchange.proofs.Words.{Octets, word-of}
@@ -21,7 +21,7 @@ use Rattle.exchange.proofs.Polygons.{Ringed, polygon-good}
 use Rattle.exchange.proofs.ReadAfterWrite.{Writable}
 use Rattle.exchange.proofs.WriteAfterRead.{x-long, polygon-there, ring-writable}
 use Rattle.exchange.proofs.PointsReadBack.{Orders}
-use Rattle.exchange.proofs.DistrictLaws.{low-both, rings-more, rings-none, rings-exactly, polygons-next, Mapping, district-good}
+use Rattle.exchange.proofs.DistrictLaws.{low-both, rings-more, rings-none, rings-exactly, polygons-next, district-good}
 use Rattle.exchange.proofs.DistrictReadBack.{Mapped}
 
 module _ (s : List ℕ) where

@@ -28,3 +28,4 @@ pub mod ReadExactly
 pub mod WriteExactly
 pub mod Unique
 pub mod RoundTrip
+pub mod DistrictRoundTrip
