@@ -20,9 +20,13 @@ pub mod PointFiles
 pub mod PointsExactly
 pub mod SentExactly
 pub mod PointsReadBack
+pub mod DistrictLaws
+pub mod DistrictReadBack
+pub mod DistrictWriteBack
 pub mod Refused
 pub mod ReadExactly
 pub mod WriteExactly
 pub mod DistrictExactly
 pub mod Unique
 pub mod RoundTrip
+pub mod DistrictRoundTrip
