@@ -4,6 +4,7 @@ use mathlib.Core.Path.{_≡_, refl, sym, ap, _∙_, subst}
 use mathlib.Core.Bool.{Bool, true, false, not, _&&_, cond}
 use mathlib.Core.List.{List, [], _∷_, _++_, append-nil}
 use lib.Dec.{leb, eqb}
+use lib.ListN.{length, drop}
 use borrow.Author.Needs.{needs}
 use borrow.Author.Tests.{le-leb, lt-leb, eq-eqb, ne-eqb, not-true, not-false, leb-true}
 use Rattle.exchange.specs.Answers.{Question, must, Answer, gives, refused, asked, over}
@@ -122,6 +123,10 @@ given-is {A} {b} qs a e = let z : gives a ≡ gives b = gives-other qs a a b e r
 -- what a refusal leaves in lent memory
 pub stays : {A : Type 0} {x : Answer A} (k p : ℕ) (new old : List ℕ) → x ≡ refused k p → old ≡ over x new old
 stays {A} k p new old e = sym (ap (λ (y : Answer A). over y new old) e)
+
+-- what an answer leaves there: the values that were to stand there, and what stood past them
+pub stands : {A : Type 0} {x : Answer A} {a : A} {new want : List ℕ} → x ≡ gives a → new ≡ want → (old : List ℕ) → over x new old ≡ want ++ drop (length want) old
+stands {A} {x} {a} {new} {want} e is old = ap (λ (y : Answer A). over y new old) e ∙ ap (λ (l : List ℕ). l ++ drop (length l) old) is
 
 -- ---- what an answer says
 

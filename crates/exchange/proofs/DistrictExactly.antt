@@ -24,6 +24,7 @@ use Rattle.exchange.proofs.Shapes.{not-both, either-fails, typed, typed
 use Rattle.exchange.proofs.Refused.{polygon-refused-exactly}
 use Rattle.exchange.proofs.ReadExactly.{polygon-taken-exactly}
 use Rattle.exchange.proofs.WriteExactly.{lows-exactly}
+use Rattle.exchange.proofs.DistrictLaws.{rings-exactly, district-head-good, district-head-passes, district-good, district-given}
 
 -- ---- polygons one after another
 
@@ -108,30 +109,14 @@ module _ (s : List ℕ) (places room : ℕ) where
   abbrev last-question : List Question
   last-question = must (leb (length s) (district-end s)) 28 (district-end s) ∷ []
 
-  head-good : gives m ≡ asked (district-head-asks s places) m → GoodDistrictHead s places
-  head-good e =
-      let q = passed-both (type-asks s 0 6 22) (ring-count-asks s places) (tt {0}) m e in
-      let q1 = passed-one (leb 9 (length s)) 20 5 _ m (q .1) in
-      let q2 = passed-one (leb 1 m && leb m 32) 35 5 _ m (q1 .1) in
-      let q3 = passed-one (leb m places) 29 5 [] m (q2 .1) in
-      let b = and-iff .0 (q2 .0) in
-      ((typed s 0 6 22 (q .0), leb-true 9 (length s) (q1 .0), leb-true 1 m (b .0), leb-true m 32 (b .1)), leb-true m places (q3 .0))
-
-  head-given : GoodDistrictHead s places → gives m ≡ asked (district-head-asks s places) m
-  head-given h =
-      passes-all (type-asks s 0 6 22) (ring-count-asks s places) (tt {0}) m (typed-passes s 0 6 22 (h .0 .0))
-      (passes-below 9 (length s) _ _ _ _ (h .0 .1)
-      (passes _ _ _ _ _ (and-iff .1 (le-leb 1 m (h .0 .2), le-leb m 32 (h .0 .3)))
-      (passes-below m places _ _ _ _ (h .1) (ends m refl))))
-
   -- the polygons behind a good head
   then-parts : {x : Answer ℕ} → GoodDistrictHead s places → x ≡ asked all m → x ≡ asked (district-asks s places room) m
-  then-parts h e = passes-all (district-head-asks s places) all m m (head-given h) e
+  then-parts h e = passes-all (district-head-asks s places) all m m (district-head-passes s places h) e
 
   parted : gives m ≡ asked (district-asks s places room) m → Parted s places room m
   parted e =
       let q = passed-both (district-head-asks s places) all m m e in (
-        head-good (q .0),
+        district-head-good s places (q .0),
         all-fine (spot-asks s) (spots s) (Fine s) (Wrong s) (spot-exact s) m (9, room) (gives-other all m (tt {0}) m (q .1) refl),
       )
 
@@ -161,7 +146,7 @@ module _ (s : List ℕ) (places room : ℕ) where
       part-cases (district-head-asks s places) all m m r from-head
       (λ g q.
       let f = first-bad (spot-asks s) (spots s) (Fine s) (Wrong s) (spot-exact s) m (9, room) n p (refused-other all m (tt {0}) n p q refl) in
-      bad-part (f .i) (f .within) (head-good g, f .before) (f .bad)))
+      bad-part (f .i) (f .within) (district-head-good s places g, f .before) (f .bad)))
       (λ g r.
       ask-cases Fault (leb (length s) (district-end s)) 28 (district-end s) [] m r
       (λ f. left-over (parted g) (leb-false (length s) (district-end s) f))
@@ -199,41 +184,22 @@ district-refused-exactly s places room number place = ((λ e. refused-to s place
 pub district-taken-exactly : (s : List ℕ) (places room n : ℕ) → (district-answer s places room ≡ gives n) ↔ DistrictTaken s places room n
 district-taken-exactly s places room n = (
   (λ e.
-      let k = ring-count s in
-      let q1 = passed-both (district-asks s places room) (last-question s places room) k k (sym e) in
-      let q2 = passed-one (leb (length s) (district-end s)) 28 (district-end s) [] k (q1 .1) in
-      let short : length s ≤ district-end s = leb-true (length s) (district-end s) (q2 .0) in
-      let q3 = passed-both (district-head-asks s places) (all s places room) k k (q1 .0) in
-      let h = parted s places room (q1 .0) in
-      let long : district-end s ≤ length s = parts-there s k 9 room (h .0 .0 .1) (gives-other (all s places room) k (tt {0}) k (q3 .1) refl) in
-      (h, omega arith, passed-all k (q2 .1))),
+      let k : ℕ = ring-count s in
+      let g = district-good s places room n e in
+      let long : district-end s ≤ length s = parts-there s k 9 room (g .head .0 .1) (g .fine) in
+      let short : length s ≤ district-end s = g .all-read in
+      ((g .head, all-fine (spot-asks s) (spots s) (Fine s) (Wrong s) (spot-exact s) k (9, room) (g .fine)), omega arith, g .counted)),
   (λ h.
-      let k = ring-count s in
       let l : length s ≡ district-end s = h .1 in
-      sym (ap gives (h .2)
-      ∙ passes-all (district-asks s places room) (last-question s places room) k k (parts-given s places room (h .0))
-      (passes-below (length s) (district-end s) _ _ _ _ (omega arith) (ends k refl)))),
+      district-given s places room n record {
+        head = h .0 .0;
+        counted = h .2;
+        fine = fine-all (spot-asks s) (spots s) (Fine s) (Wrong s) (spot-exact s) (ring-count s) (9, room) (h .0 .1);
+        all-read = omega arith;
+      }),
 )
 
 -- ---- the writer
-
--- each ring has 3 to 1,024 positions, in plain logic
-pub rings-exactly : (lengths : List ℕ) → (rings lengths ≡ true) ↔ Rings lengths
-unfolding rings
-rings-exactly [] = ((λ e i h. absurd (omega arith)), (λ f. refl))
-rings-exactly (n ∷ lengths) = (
-  (λ e.
-      let a = and-iff .0 e in
-      let b = and-iff .0 (a .0) in
-      each (leb-true 3 n (b .0), leb-true n 1024 (b .1)) (rings-exactly lengths .0 (a .1))),
-  (λ f.
-      let g = f 0 (suc-le-suc zero-le) in
-      and-iff .1 (and-iff .1 (le-leb 3 n (g .0), le-leb n 1024 (g .1)), rings-exactly lengths .1 (λ i h. f (suc i) (suc-le-suc h)))),
-)
-  where
-    each : (3 ≤ n) × (n ≤ 1024) → Rings lengths → Rings (n ∷ lengths)
-    each h f zero l = h
-    each h f (suc i) l = f i (le-of-suc-le-suc l)
 
 module _ (xs ys lengths : List ℕ) (room : ℕ) where
   abbrev k : ℕ

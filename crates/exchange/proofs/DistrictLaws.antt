@@ -1,4 +1,4 @@
--- The rings of a district's file one after another: how long their polygons are, and what the writer and the reader take. Assumes nothing.
+-- The rings of a district's file one after another: how long their polygons are, and what the reader takes. Assumes nothing.
 use Prim.Native.Nat.{ℕ, zero, suc, _+_, _*_, _<_, _≤_, suc-le-suc, zero-le}
 use mathlib.Core.Path.{_≡_, refl, sym, ap, _∙_}
 use mathlib.Core.Logic.{_↔_}
@@ -6,8 +6,8 @@ use mathlib.Core.Bool.{true, _&&_}
 use mathlib.Core.List.{List, [], _∷_, _++_}
 use native.Mathlib.Omega.{arith}
 use native.Mathlib.Nat.{le-of-suc-le-suc}
-use borrow.Author.Tests.{leb-true, le-leb, eqb-true, eq-eqb}
-use lib.Dec.{leb, eqb}
+use borrow.Author.Tests.{leb-true, le-leb}
+use lib.Dec.{leb}
 use lib.ListN.{length, take, drop, getD, length-append, length-drop, take-append-drop}
 use lib.Seq.{length-take-le, take-at, drop-at}
 use Rattle.laws.proofs.Test.{and-iff}
@@ -15,13 +15,12 @@ use Rattle.exchange.specs.Answers.{must, Answer, gives, asked}
 use Rattle.exchange.specs.Bytes.{inOrder}
 use Rattle.exchange.specs.Writing.{polygon, low}
 use Rattle.exchange.specs.Reading.{type-asks}
-use Rattle.exchange.specs.Districts.{polygons, district-head, district-file, total, rings, district-size, district-writing, parts-asks, ring-count, district-end, ring-count-asks, district-head-asks, district-asks, district-answer}
-use Rattle.exchange.specs.Refusals.{Low}
-use Rattle.exchange.specs.DistrictRefusals.{Rings, Divided, GoodDistrictHead}
+use Rattle.exchange.specs.Districts.{polygons, district-head, district-file, total, rings, district-size, parts-asks, ring-count, district-end, ring-count-asks, district-head-asks, district-asks, district-answer}
+use Rattle.exchange.specs.DistrictRefusals.{Rings, GoodDistrictHead}
 use Rattle.exchange.proofs.Asking.{fault, passes, passes-below, ends, passes-all, gives-other}
 use Rattle.exchange.proofs.Heads.{passed-one, passed-all, passed-both}
 use Rattle.exchange.proofs.Lengths.{order-length, polygon-length}
-use Rattle.exchange.proofs.Lows.{low-parts, low-more, low-none, low-exactly}
+use Rattle.exchange.proofs.Lows.{low-parts, low-more, low-none}
 use Rattle.exchange.proofs.Shapes.{typed, typed-passes}
 
 -- ---- lists in two parts
@@ -109,37 +108,6 @@ pub district-file-length : (order : ℕ) (orders lengths xs ys : List ℕ) → l
 district-file-length order orders lengths xs ys e h f =
     length-append (district-head order (length lengths)) (polygons orders lengths xs ys)
     ∙ omega (arith, district-head-length order (length lengths), polygons-length orders lengths xs ys e h f)
-
--- ---- what the writer takes
-
-pub district-written-exactly : (xs ys lengths : List ℕ) (room n : ℕ)
-    → (district-writing xs ys lengths room ≡ gives n) ↔ (Divided xs ys lengths × (Low xs × Low ys) × (district-size lengths ≤ room) × (n ≡ district-size lengths))
-district-written-exactly xs ys lengths room n =
-    let k : ℕ = length lengths in
-    let size : ℕ = district-size lengths in (
-      (λ e.
-          let q1 = passed-one (leb 1 k && leb k 32) 35 0 _ _ (sym e) in
-          let q2 = passed-one (eqb (total lengths) (length xs)) 36 0 _ _ (q1 .1) in
-          let q3 = passed-one (eqb (length xs) (length ys) && rings lengths) 30 0 _ _ (q2 .1) in
-          let q4 = passed-one (low xs && low ys) 31 0 _ _ (q3 .1) in
-          let q5 = passed-one (leb size room) 32 0 [] size (q4 .1) in
-          let few = and-iff .0 (q1 .0) in
-          let same = and-iff .0 (q3 .0) in
-          let lows = and-iff .0 (q4 .0) in (
-            (((leb-true 1 k (few .0), leb-true k 32 (few .1)), eqb-true _ _ (q2 .0)), eqb-true _ _ (same .0), rings-exactly lengths .0 (same .1)),
-            (low-exactly xs .0 (lows .0), low-exactly ys .0 (lows .1)),
-            leb-true size room (q5 .0),
-            passed-all size (q5 .1),
-          )),
-      (λ h.
-          let few = h .0 .0 .0 in
-          sym (ap gives (h .3)
-          ∙ passes _ _ _ _ _ (and-iff .1 (le-leb 1 k (few .0), le-leb k 32 (few .1)))
-          (passes _ _ _ _ _ (eq-eqb _ _ (h .0 .0 .1))
-          (passes _ _ _ _ _ (and-iff .1 (eq-eqb _ _ (h .0 .1), rings-exactly lengths .1 (h .0 .2)))
-          (passes _ _ _ _ _ (and-iff .1 (low-exactly xs .1 (h .1 .0), low-exactly ys .1 (h .1 .1)))
-          (passes-below size room _ _ _ _ (h .2) (ends size refl))))))),
-    )
 
 -- ---- what the reader takes
 

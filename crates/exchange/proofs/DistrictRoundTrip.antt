@@ -10,8 +10,10 @@ use Rattle.exchange.specs.Reading.{order-at}
 use Rattle.exchange.specs.Districts.{district-file, district-size, district-writing, district, ring-count, district-answer, district-lengths, district-xs, district-ys}
 use Rattle.exchange.specs.Refusals.{Low}
 use Rattle.exchange.specs.DistrictRefusals.{Divided, start}
+use Rattle.exchange.proofs.Asking.{stands}
 use Rattle.exchange.proofs.Words.{Octets}
-use Rattle.exchange.proofs.DistrictLaws.{district-file-length, district-written-exactly}
+use Rattle.exchange.proofs.DistrictLaws.{district-file-length}
+use Rattle.exchange.proofs.DistrictExactly.{write-district-taken-exactly}
 use Rattle.exchange.proofs.DistrictReadBack.{Mapped, district-file-reads-back}
 use Rattle.exchange.proofs.DistrictWriteBack.{district-orders, all-little, write-after-read-district}
 
@@ -34,10 +36,6 @@ mapped-of xs ys lengths h l =
       low-y = l .1;
     }
 
--- lent memory where an answer was given: the values that were to stand there, and what stood past them
-stands : {A : Type 0} {x : Answer A} {a : A} {new want : List ℕ} → x ≡ gives a → new ≡ want → (old : List ℕ) → over x new old ≡ want ++ drop (length want) old
-stands {A} {x} {a} {new} {want} e is old = ap (λ (y : Answer A). over y new old) e ∙ ap (λ (l : List ℕ). l ++ drop (length l) old) is
-
 -- the n bytes that `write_district` put into `out` are read, into lists with room for the rings, as the rings; past them the lists stay
 pub write-district-then-read : (xs ys lengths out : List ℕ) (n : ℕ) → district-writing xs ys lengths (length out) ≡ gives n
     → (block : List ℕ) → block ≡ take n (over (district-writing xs ys lengths (length out)) (district lengths xs ys) out)
@@ -47,7 +45,7 @@ pub write-district-then-read : (xs ys lengths out : List ℕ) (n : ℕ) → dist
     × ((old : List ℕ) → over (district-answer block places room) (district-xs block) old ≡ xs ++ drop (length xs) old)
     × ((old : List ℕ) → over (district-answer block places room) (district-ys block) old ≡ ys ++ drop (length ys) old)
 write-district-then-read xs ys lengths out n e block b places room fits roomy =
-    let w = district-written-exactly xs ys lengths (length out) n .0 e in
+    let w = write-district-taken-exactly xs ys lengths (length out) n .0 e in
     let m = mapped-of xs ys lengths (w .0) (w .1) in
     let f : List ℕ = district lengths xs ys in
     let summed = m .summed in
@@ -78,6 +76,6 @@ read-district-then-write block oct places room n e first each out fits =
     let long : length block ≡ district-size lengths =
     ap length (r .0) ∙ district-file-length (order-at block 0) (district-orders block) lengths xs ys (m .order-each) (omega arith) (m .same) in
     let answer : district-writing xs ys lengths (length out) ≡ gives (length block) =
-    district-written-exactly xs ys lengths (length out) (length block) .1
+    write-district-taken-exactly xs ys lengths (length out) (length block) .1
     ((((m .least, m .most), m .summed), m .same, m .ringed), (m .low-x, m .low-y), omega arith, long) in
     (answer, stands answer (sym is) out)

@@ -9,6 +9,7 @@ use Rattle.exchange.specs.Answers.{Answer, gives, over}
 use Rattle.exchange.specs.Writing.{polygon, size, writing}
 use Rattle.exchange.specs.Reading.{order-at, xs-at, ys-at, read-answer}
 use Rattle.exchange.specs.Refusals.{Ring, Low}
+use Rattle.exchange.proofs.Asking.{stands}
 use Rattle.exchange.proofs.Words.{Octets}
 use Rattle.exchange.proofs.Lows.{low-exactly}
 use Rattle.exchange.proofs.Lengths.{polygon-length}
@@ -19,9 +20,6 @@ use Rattle.exchange.proofs.WriteAfterRead.{write-after-read}
 writable-of : (xs ys : List ℕ) → Ring xs ys → Low xs × Low ys → Writable xs ys
 writable-of xs ys h l = record { same = h .0; least = h .1; most = h .2; low-x = low-exactly xs .1 (l .0); low-y = low-exactly ys .1 (l .1) }
 
-given : {A : Type 0} {x : Answer A} {a : A} (new old : List ℕ) → x ≡ gives a → over x new old ≡ new ++ drop (length new) old
-given {A} new old e = ap (λ (y : Answer A). over y new old) e
-
 -- the n bytes that `write` put into `out` are read, into lists with room for the ring, as the ring; past it the lists stay
 pub write-then-read : (xs ys out : List ℕ) (n : ℕ) → writing xs ys (length out) ≡ gives n → (block : List ℕ) → block ≡ take n (over (writing xs ys (length out)) (polygon 1 xs ys) out)
     → (room : ℕ) → length xs ≤ room
@@ -30,14 +28,14 @@ pub write-then-read : (xs ys out : List ℕ) (n : ℕ) → writing xs ys (length
 write-then-read xs ys out n e block b room fits =
     let w = write-taken-exactly xs ys (length out) n .0 e in
     let p : List ℕ = polygon 1 xs ys in
-    let front : block ≡ p = b ∙ ap (take n) (given p out e) ∙ take-at p (drop (length p) out) n (polygon-length 1 xs ys (w .0 .0) ∙ sym (w .3)) in
+    let front : block ≡ p = b ∙ ap (take n) (stands e refl out) ∙ take-at p (drop (length p) out) n (polygon-length 1 xs ys (w .0 .0) ∙ sym (w .3)) in
     let r = read-after-write 1 (omega arith) xs ys (writable-of xs ys (w .0) (w .1)) room fits in
     let answer : read-answer block room ≡ gives (length xs) = ap (λ (s : List ℕ). read-answer s room) front ∙ r .0 in
     let x-is : xs-at block 0 ≡ xs = ap (λ (s : List ℕ). xs-at s 0) front ∙ r .1 in
     let y-is : ys-at block 0 ≡ ys = ap (λ (s : List ℕ). ys-at s 0) front ∙ r .2 in (
       answer,
-      (λ old. given (xs-at block 0) old answer ∙ ap (λ (l : List ℕ). l ++ drop (length l) old) x-is),
-      (λ old. given (ys-at block 0) old answer ∙ ap (λ (l : List ℕ). l ++ drop (length l) old) y-is),
+      stands answer x-is,
+      stands answer y-is,
     )
 
 -- a little-endian block that is read as a ring is what `write` makes of that ring; past it the output stays
@@ -53,4 +51,4 @@ read-then-write block oct room n e low out fits =
     let long : length block ≡ size (length x) = ap length (sym same) ∙ polygon-length 1 x y (w .same) in
     let answer : writing x y (length out) ≡ gives (length block) =
     write-taken-exactly x y (length out) (length block) .1 ((w .same, w .least, w .most), (low-exactly x .0 (w .low-x), low-exactly y .0 (w .low-y)), omega arith, long) in
-    (answer, given (polygon 1 x y) out answer ∙ ap (λ (s : List ℕ). s ++ drop (length s) out) same)
+    (answer, stands answer same out)
