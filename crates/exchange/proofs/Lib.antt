@@ -20,6 +20,7 @@ pub mod PointFiles
 pub mod PointsExactly
 pub mod SentExactly
 pub mod PointsReadBack
+pub mod DistrictWriting
 pub mod Refused
 pub mod ReadExactly
 pub mod WriteExactly
