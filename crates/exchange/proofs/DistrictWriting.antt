@@ -5,15 +5,17 @@ use mathlib.Core.Bool.{Bool, true, false, not, _&&_}
 use mathlib.Core.List.{List, [], _∷_, _++_}
 use native.Mathlib.Omega.{arith}
 use borrow.Rule.Slice.PartMut.{midOf, putMid}
-use borrow.Author.Tests.{leb-true, not-true, not-false}
-use lib.Dec.{leb}
+use borrow.Author.Tests.{leb-true, eqb-true, not-true, not-false}
+use lib.Dec.{leb, eqb}
 use lib.ListN.{length, take, drop, getD, replicate, length-append, length-drop, length-replicate, drop-of-length-le}
 use lib.Seq.{drop-cons, drop-drop, length-take-le, sets, length-sets}
 use Rattle.laws.proofs.Test.{and-iff}
 use Rattle.laws.proofs.Put.{put-next, put-rest}
+use Rattle.exchange.specs.Answers.{must, Answer, asked}
 use Rattle.exchange.specs.Bytes.{inOrder}
-use Rattle.exchange.specs.Writing.{polygon, size}
-use Rattle.exchange.specs.Districts.{polygons, district-head, district, total, rings, district-size}
+use Rattle.exchange.specs.Writing.{polygon, low}
+use Rattle.exchange.specs.Districts.{polygons, district-head, district, total, rings, district-size, district-writing}
+use Rattle.exchange.proofs.Asking.{passes-call, passes-same}
 use Rattle.exchange.proofs.Lengths.{order-length, polygon-length}
 
 -- ---- the lengths from the i-th on
@@ -131,8 +133,8 @@ module _ (lengths xs ys : List ℕ) (i from : ℕ) where
 
 -- before a turn of the loop: the ring, of n positions, is there and has its room; and what is so after it
 pub record Turn (lengths xs ys : List ℕ) (i from room at n : ℕ) : Type 0 where
-  pub low : 3 ≤ n
-  pub high : n ≤ 1024
+  pub least : 3 ≤ n
+  pub most : n ≤ 1024
   pub within-xs : from + n ≤ length xs
   pub within-ys : from + n ≤ length ys
   pub room-left : at + (29 + 16 * n) ≤ room
@@ -143,8 +145,8 @@ turn lengths xs ys i from room at h s =
     let r = rings-next lengths i h (s .sized) in
     let t = total-step lengths i h in
     record {
-      low = r .0;
-      high = r .1;
+      least = r .0;
+      most = r .1;
       within-xs = omega arith;
       within-ys = omega arith;
       room-left = omega arith;
@@ -164,3 +166,40 @@ put-district lengths xs ys out o part h p q =
     ∙ put-rest 9 o ps (omega arith)
     ∙ ap (λ (l : List ℕ). sets l 9 ps) p
     ∙ put-next out (district-head 1 k) ps 0 9 (district-head-length 1 k)
+
+-- ---- rings that the writer takes
+
+-- at most 32 rings, which the lists hold and nothing besides; and the writer's answer is that of its last two questions
+pub record Ringed (lengths xs ys : List ℕ) : Type 0 where
+  pub few : length lengths ≤ 32
+  pub sized : rings lengths ≡ true
+  pub all-xs : total lengths ≡ length xs
+  pub all-ys : total lengths ≡ length ys
+  pub most : total lengths ≤ 1024 * length lengths
+  pub passed : {x : Answer ℕ} (room : ℕ) → x ≡ asked (must (low xs && low ys) 31 0 ∷ must (leb (district-size lengths) room) 32 0 ∷ []) (district-size lengths)
+      → x ≡ district-writing xs ys lengths room
+
+rings-most : (lengths : List ℕ) → rings lengths ≡ true → total lengths ≤ 1024 * length lengths
+unfolding total
+rings-most [] e = omega arith
+rings-most (n ∷ lengths) e =
+    let r = rings-next (n ∷ lengths) 0 (omega arith) e in
+    omega (arith, rings-most lengths (r .2))
+
+pub few-are : {r : Bool} (n : ℕ) → r ≡ (leb 1 n && leb n 32) → not r ≡ false → n ≤ 32
+few-are {r} n is e = leb-true n 32 (and-iff {a = leb 1 n} .0 (sym is ∙ not-false r e) .1)
+
+-- what the tests of the count, the sum and the lengths say: r, t and q are their answers
+pub ringed : {r q : Bool} {t : ℕ} (lengths xs ys : List ℕ) → r ≡ (leb 1 (length lengths) && leb (length lengths) 32) → not r ≡ false → t ≡ total lengths → t ≡ length xs
+    → q ≡ (eqb (length xs) (length ys) && rings lengths) → not q ≡ false → Ringed lengths xs ys
+ringed {r} {q} {t} lengths xs ys c ce s se d de =
+    let all = and-iff .0 (sym d ∙ not-false q de) in
+    let same = eqb-true (length xs) (length ys) (all .0) in
+    record {
+      few = few-are (length lengths) c ce;
+      sized = all .1;
+      all-xs = omega arith;
+      all-ys = omega arith;
+      most = rings-most lengths (all .1);
+      passed = λ room e. passes-call _ 35 0 _ _ c ce (passes-same _ _ 36 0 _ _ s se (passes-call _ 30 0 _ _ d de e));
+    }
