@@ -1,5 +1,5 @@
 -- The writer of district files: rings' lengths one by one, polygons put one after the other, and how long they are. Assumes nothing.
-use Prim.Native.Nat.{ℕ, zero, suc, _+_, _*_, _-_, _<_, _≤_}
+use Prim.Native.Nat.{ℕ, suc, _+_, _*_, _-_, _<_, _≤_}
 use mathlib.Core.Path.{_≡_, refl, sym, ap, _∙_}
 use mathlib.Core.Bool.{Bool, true, false, not, _&&_}
 use mathlib.Core.List.{List, [], _∷_, _++_}
@@ -140,8 +140,8 @@ pub record Turn (lengths xs ys : List ℕ) (i from room at n : ℕ) : Type 0 whe
   pub room-left : at + (29 + 16 * n) ≤ room
   pub after : Holds lengths xs ys (i + 1) (from + n) room (at + (29 + 16 * n))
 
-pub turn : (lengths xs ys : List ℕ) (i from room at : ℕ) → i < length lengths → Holds lengths xs ys i from room at → Turn lengths xs ys i from room at (getD lengths i 0)
-turn lengths xs ys i from room at h s =
+pub turn : {lengths xs ys : List ℕ} {i from room at : ℕ} → i < length lengths → Holds lengths xs ys i from room at → Turn lengths xs ys i from room at (getD lengths i 0)
+turn {lengths} {xs} {ys} {i} {from} {room} {at} h s =
     let r = rings-next lengths i h (s .sized) in
     let t = total-step lengths i h in
     record {

@@ -1,6 +1,6 @@
 -- `exchange::write_district` meets its contract.
-use Prim.Native.Nat.{ℕ, _+_, _*_, _<_, _≤_}
-use mathlib.Core.Path.{_≡_, refl, sym, ap, _∙_}
+use Prim.Native.Nat.{_+_, _*_, _<_, _≤_}
+use mathlib.Core.Path.{_≡_, _∙_}
 use native.Mathlib.Omega.{arith}
 use borrow.Author.Needs.{needs}
 use denote.Ref.{now}
@@ -9,7 +9,7 @@ use Rattle.laws.proofs.Put.{put-front}
 use Rattle.exchange.specs.Districts.{district, district-size}
 use Rattle.exchange.proofs.Asking.{asking, stays}
 use Rattle.exchange.proofs.Floats.{holds}
-use Rattle.exchange.proofs.DistrictWriting.{ringed, few-are, district-length}
+use Rattle.exchange.proofs.DistrictWriting.{Ringed, ringed, few-are, district-length}
 use Rattle.exchange.proofs.write_district.Statement.{statement}
 use Rattle.exchange.proofs.write_district.Tie as tie
 
@@ -60,29 +60,25 @@ returns-4 c =
 mul-size : tie.Need-mul-size
 mul-size c =
     let a = c .before .before .before .before .before .before .before .before .before .before .before .before .args in
-    let h = ringed (now (a .lengths)) (now (a .xs)) (now (a .ys)) (c .before .before .before .before .before .before .before .is-count .ensures) (c .before .before .before .before .before .before .if1 .left)
-    (c .before .before .before .before .before .total .ensures) (c .before .before .before .before .if2 .left) (c .before .before .before .are-rings .ensures) (c .before .before .if3 .left) in
+    let h : Ringed (now (a .lengths)) (now (a .xs)) (now (a .ys)) = search (ringed, needs) in
     omega arith
 
 mul-size-2 : tie.Need-mul-size-2
 mul-size-2 c =
     let a = c .before .before .before .before .before .before .before .before .before .before .before .before .args in
-    let h = ringed (now (a .lengths)) (now (a .xs)) (now (a .ys)) (c .before .before .before .before .before .before .before .is-count .ensures) (c .before .before .before .before .before .before .if1 .left)
-    (c .before .before .before .before .before .total .ensures) (c .before .before .before .before .if2 .left) (c .before .before .before .are-rings .ensures) (c .before .before .if3 .left) in
+    let h : Ringed (now (a .lengths)) (now (a .xs)) (now (a .ys)) = search (ringed, needs) in
     omega arith
 
 add-size : tie.Need-add-size
 add-size c =
     let a = c .before .before .before .before .before .before .before .before .before .before .before .before .args in
-    let h = ringed (now (a .lengths)) (now (a .xs)) (now (a .ys)) (c .before .before .before .before .before .before .before .is-count .ensures) (c .before .before .before .before .before .before .if1 .left)
-    (c .before .before .before .before .before .total .ensures) (c .before .before .before .before .if2 .left) (c .before .before .before .are-rings .ensures) (c .before .before .if3 .left) in
+    let h : Ringed (now (a .lengths)) (now (a .xs)) (now (a .ys)) = search (ringed, needs) in
     omega arith
 
 add-size-2 : tie.Need-add-size-2
 add-size-2 c =
     let a = c .before .before .before .before .before .before .before .before .before .before .before .before .args in
-    let h = ringed (now (a .lengths)) (now (a .xs)) (now (a .ys)) (c .before .before .before .before .before .before .before .is-count .ensures) (c .before .before .before .before .before .before .if1 .left)
-    (c .before .before .before .before .before .total .ensures) (c .before .before .before .before .if2 .left) (c .before .before .before .are-rings .ensures) (c .before .before .if3 .left) in
+    let h : Ringed (now (a .lengths)) (now (a .xs)) (now (a .ys)) = search (ringed, needs) in
     omega arith
 
 refused-requires-5 : tie.Need-refused-requires-5
@@ -91,16 +87,14 @@ refused-requires-5 c κs = search needs
 returns-5 : tie.Need-returns-5
 returns-5 c =
     let a = c .before .before .before .before .before .before .before .before .before .before .before .before .before .before .args in
-    let h = ringed (now (a .lengths)) (now (a .xs)) (now (a .ys)) (c .before .before .before .before .before .before .before .before .before .is-count .ensures) (c .before .before .before .before .before .before .before .before .if1 .left)
-    (c .before .before .before .before .before .before .before .total .ensures) (c .before .before .before .before .before .before .if2 .left) (c .before .before .before .before .before .are-rings .ensures) (c .before .before .before .before .if3 .left) in
+    let h : Ringed (now (a .lengths)) (now (a .xs)) (now (a .ys)) = search (ringed, needs) in
     let f : length (now (a .out)) < district-size (now (a .lengths)) = omega arith in
     (h .passed (length (now (a .out))) (search asking depth 4), stays _ _ (district (now (a .lengths)) (now (a .xs)) (now (a .ys))) (now (a .out)) (c .refused5 .ensures))
 
 put-district-requires : tie.Need-put-district-requires
 put-district-requires c κs =
     let a = c .before .before .before .before .before .before .before .before .before .before .before .before .before .before .args in
-    let h = ringed (now (a .lengths)) (now (a .xs)) (now (a .ys)) (c .before .before .before .before .before .before .before .before .before .is-count .ensures) (c .before .before .before .before .before .before .before .before .if1 .left)
-    (c .before .before .before .before .before .before .before .total .ensures) (c .before .before .before .before .before .before .if2 .left) (c .before .before .before .before .before .are-rings .ensures) (c .before .before .before .before .if3 .left) in
+    let h : Ringed (now (a .lengths)) (now (a .xs)) (now (a .ys)) = search (ringed, needs) in
     (h .few, (holds (h .sized), ((h .all-xs, h .all-ys), omega arith)))
 
 same-length : tie.Need-same-length
@@ -109,12 +103,10 @@ same-length c = search needs
 returns-6 : tie.Need-returns-6
 returns-6 c =
     let a = c .before .before .before .before .before .before .before .before .before .before .before .before .before .before .before .before .before .args in
-    let h = ringed (now (a .lengths)) (now (a .xs)) (now (a .ys)) (c .before .before .before .before .before .before .before .before .before .before .before .before .is-count .ensures) (c .before .before .before .before .before .before .before .before .before .before .before .if1 .left)
-    (c .before .before .before .before .before .before .before .before .before .before .total .ensures) (c .before .before .before .before .before .before .before .before .before .if2 .left) (c .before .before .before .before .before .before .before .before .are-rings .ensures) (c .before .before .before .before .before .before .before .if3 .left) in
+    let h : Ringed (now (a .lengths)) (now (a .xs)) (now (a .ys)) = search (ringed, needs) in
     let n = length (now (a .lengths)) in
     let size : 9 + (29 * n + 16 * length (now (a .xs))) ≡ district-size (now (a .lengths)) = omega arith in
-    let fits : district-size (now (a .lengths)) ≤ length (now (a .out)) = omega arith in
-    (
+    let fits : district-size (now (a .lengths)) ≤ length (now (a .out)) = omega arith in (
       h .passed (length (now (a .out))) (search asking depth 4),
       c .before .before .put-district .ensures
           ∙ put-front (district (now (a .lengths)) (now (a .xs)) (now (a .ys))) (now (a .out)) (omega (arith, district-length (now (a .lengths)) (now (a .xs)) (now (a .ys)) (omega arith) (omega arith))),

@@ -1,5 +1,5 @@
 -- `exchange::districts::are_sized` meets its contract. The loop's invariant: what is left are rings' lengths just where the whole is.
-use Prim.Native.Nat.{ℕ, _+_, _-_, _≤_}
+use Prim.Native.Nat.{_-_, _≤_}
 use mathlib.Core.Path.{_≡_, refl, sym, _∙_}
 use native.Mathlib.Omega.{arith}
 use borrow.Author.Needs.{needs}

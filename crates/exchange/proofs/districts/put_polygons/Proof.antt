@@ -1,10 +1,10 @@
 -- `exchange::districts::put_polygons` meets its contract. The loop's invariant: what is left to put makes the output what the whole makes of it, and
 -- the lists and the output hold what is left.
-use Prim.Native.Nat.{ℕ, _+_, _*_, _-_, _≤_}
+use Prim.Native.Nat.{ℕ, _-_}
 use mathlib.Core.Path.{_≡_, refl, sym, ap, _∙_}
 use native.Mathlib.Omega.{arith}
 use denote.Ref.{now}
-use lib.ListN.{length, drop, replicate}
+use lib.ListN.{length, replicate}
 use lib.Seq.{sets}
 use lib.Ieee.Bits.{is-true}
 use Rattle.exchange.specs.Districts.{polygons, rings}
@@ -47,16 +47,12 @@ cast-n c = omega (arith, c .shared-slice-known4 .given (c .before .before .loop 
 
 add-to : tie.Need-add-to Inv-loop μ-loop
 add-to c =
-    let a = c .before .before .before .before .before .before .before .args in
-    let l = c .before .before .loop in
-    let h = turn (now (a .lengths)) (now (a .xs)) (now (a .ys)) (l .i) (l .from) (length (now (a .out))) (l .at) (c .before .loop-test .taken) (l .inv .0) in
+    let h = turn (c .before .loop-test .taken) (c .before .before .loop .inv .0) in
     omega arith
 
 mul-put-polygon : tie.Need-mul-put-polygon Inv-loop μ-loop
 mul-put-polygon c =
-    let a = c .before .before .before .before .before .before .before .args in
-    let l = c .before .before .loop in
-    let h = turn (now (a .lengths)) (now (a .xs)) (now (a .ys)) (l .i) (l .from) (length (now (a .out))) (l .at) (c .before .loop-test .taken) (l .inv .0) in
+    let h = turn (c .before .loop-test .taken) (c .before .before .loop .inv .0) in
     omega arith
 
 sub-put-polygon : tie.Need-sub-put-polygon Inv-loop μ-loop
@@ -67,16 +63,12 @@ part-put-polygon-start c = omega arith
 
 part-put-polygon-end : tie.Need-part-put-polygon-end Inv-loop μ-loop
 part-put-polygon-end c =
-    let a = c .before .before .before .before .before .before .before .args in
-    let l = c .before .before .loop in
-    let h = turn (now (a .lengths)) (now (a .xs)) (now (a .ys)) (l .i) (l .from) (length (now (a .out))) (l .at) (c .before .loop-test .taken) (l .inv .0) in
+    let h = turn (c .before .loop-test .taken) (c .before .before .loop .inv .0) in
     omega arith
 
 mul-put-polygon-2 : tie.Need-mul-put-polygon-2 Inv-loop μ-loop
 mul-put-polygon-2 c =
-    let a = c .before .before .before .before .before .before .before .before .args in
-    let l = c .before .before .before .loop in
-    let h = turn (now (a .lengths)) (now (a .xs)) (now (a .ys)) (l .i) (l .from) (length (now (a .out))) (l .at) (c .before .before .loop-test .taken) (l .inv .0) in
+    let h = turn (c .before .before .loop-test .taken) (c .before .before .before .loop .inv .0) in
     omega arith
 
 sub-put-polygon-2 : tie.Need-sub-put-polygon-2 Inv-loop μ-loop
@@ -87,9 +79,7 @@ part-put-polygon-start-2 c = omega arith
 
 part-put-polygon-end-2 : tie.Need-part-put-polygon-end-2 Inv-loop μ-loop
 part-put-polygon-end-2 c =
-    let a = c .before .before .before .before .before .before .before .before .args in
-    let l = c .before .before .before .loop in
-    let h = turn (now (a .lengths)) (now (a .xs)) (now (a .ys)) (l .i) (l .from) (length (now (a .out))) (l .at) (c .before .before .loop-test .taken) (l .inv .0) in
+    let h = turn (c .before .before .loop-test .taken) (c .before .before .before .loop .inv .0) in
     omega arith
 
 sub-put-polygon-3 : tie.Need-sub-put-polygon-3 Inv-loop μ-loop
@@ -103,9 +93,7 @@ part-put-polygon-end-3 c = omega arith
 
 put-polygon-requires : tie.Need-put-polygon-requires Inv-loop μ-loop
 put-polygon-requires c κs =
-    let a = c .before .before .before .before .before .before .before .before .before .before .args in
-    let l = c .before .before .before .before .before .loop in
-    let h = turn (now (a .lengths)) (now (a .xs)) (now (a .ys)) (l .i) (l .from) (length (now (a .out))) (l .at) (c .before .before .before .before .loop-test .taken) (l .inv .0) in
+    let h = turn (c .before .before .before .before .loop-test .taken) (c .before .before .before .before .before .loop .inv .0) in
     ((omega arith, omega arith), (omega arith, omega arith))
 
 add-i : tie.Need-add-i Inv-loop μ-loop
@@ -113,23 +101,17 @@ add-i c = omega arith
 
 mul-at : tie.Need-mul-at Inv-loop μ-loop
 mul-at c =
-    let a = c .before .before .before .before .before .before .before .before .before .before .before .before .before .args in
-    let l = c .before .before .before .before .before .before .before .before .loop in
-    let h = turn (now (a .lengths)) (now (a .xs)) (now (a .ys)) (l .i) (l .from) (length (now (a .out))) (l .at) (c .before .before .before .before .before .before .before .loop-test .taken) (l .inv .0) in
+    let h = turn (c .before .before .before .before .before .before .before .loop-test .taken) (c .before .before .before .before .before .before .before .before .loop .inv .0) in
     omega arith
 
 add-at : tie.Need-add-at Inv-loop μ-loop
 add-at c =
-    let a = c .before .before .before .before .before .before .before .before .before .before .before .before .before .args in
-    let l = c .before .before .before .before .before .before .before .before .loop in
-    let h = turn (now (a .lengths)) (now (a .xs)) (now (a .ys)) (l .i) (l .from) (length (now (a .out))) (l .at) (c .before .before .before .before .before .before .before .loop-test .taken) (l .inv .0) in
+    let h = turn (c .before .before .before .before .before .before .before .loop-test .taken) (c .before .before .before .before .before .before .before .before .loop .inv .0) in
     omega arith
 
 add-at-2 : tie.Need-add-at-2 Inv-loop μ-loop
 add-at-2 c =
-    let a = c .before .before .before .before .before .before .before .before .before .before .before .before .before .args in
-    let l = c .before .before .before .before .before .before .before .before .loop in
-    let h = turn (now (a .lengths)) (now (a .xs)) (now (a .ys)) (l .i) (l .from) (length (now (a .out))) (l .at) (c .before .before .before .before .before .before .before .loop-test .taken) (l .inv .0) in
+    let h = turn (c .before .before .before .before .before .before .before .loop-test .taken) (c .before .before .before .before .before .before .before .before .loop .inv .0) in
     omega arith
 
 loop-less : tie.Need-loop-less Inv-loop μ-loop
@@ -139,13 +121,12 @@ loop-again : tie.Need-loop-again Inv-loop μ-loop
 loop-again c =
     let a = c .before .before .before .before .before .before .before .before .before .before .before .before .before .args in
     let l = c .before .before .before .before .before .before .before .before .loop in
-    let h = turn (now (a .lengths)) (now (a .xs)) (now (a .ys)) (l .i) (l .from) (length (now (a .out))) (l .at) (c .before .before .before .before .before .before .before .loop-test .taken) (l .inv .0) in
-    (
+    let t = c .before .before .before .before .before .before .before .loop-test .taken in
+    let q = c .before .before .put-polygon in
+    let h = turn t (l .inv .0) in (
       h .after,
       omega arith,
-      polygons-step (now (a .lengths)) (now (a .xs)) (now (a .ys)) (l .i) (l .from) (l .out) (c .before .before .put-polygon .last .1 .1 .0) (l .at) _ refl
-          (c .before .before .before .before .before .before .before .loop-test .taken) (h .within-xs) (h .within-ys) (omega arith) (c .before .before .put-polygon .ensures)
-          ∙ l .inv .2,
+      polygons-step (now (a .lengths)) (now (a .xs)) (now (a .ys)) (l .i) (l .from) (l .out) (q .last .1 .1 .0) (l .at) _ refl t (h .within-xs) (h .within-ys) (omega arith) (q .ensures) ∙ l .inv .2,
     )
 
 same-length : tie.Need-same-length Inv-loop μ-loop

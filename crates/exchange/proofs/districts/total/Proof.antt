@@ -1,7 +1,7 @@
 -- `exchange::districts::total` meets its contract. The loop's invariant: the sum and the lengths that are left make the whole sum, and each length
 -- passed added at most 65,535.
-use Prim.Native.Nat.{ℕ, _+_, _*_, _-_, _≤_}
-use mathlib.Core.Path.{_≡_, refl}
+use Prim.Native.Nat.{_+_, _*_, _-_, _≤_}
+use mathlib.Core.Path.{_≡_}
 use native.Mathlib.Omega.{arith}
 use denote.Ref.{now}
 use lib.ListN.{length, drop}
