@@ -23,6 +23,7 @@ pub mod PointsReadBack
 pub mod DistrictLaws
 pub mod DistrictReadBack
 pub mod DistrictWriteBack
+pub mod DistrictWriting
 pub mod Refused
 pub mod ReadExactly
 pub mod WriteExactly

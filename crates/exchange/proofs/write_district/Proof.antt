@@ -1,0 +1,139 @@
+-- `exchange::write_district` meets its contract.
+use Prim.Native.Nat.{_+_, _*_, _<_, _≤_}
+use mathlib.Core.Path.{_≡_, _∙_}
+use native.Mathlib.Omega.{arith}
+use borrow.Author.Needs.{needs}
+use denote.Ref.{now}
+use lib.ListN.{length}
+use Rattle.laws.proofs.Put.{put-front}
+use Rattle.exchange.specs.Districts.{district, district-size}
+use Rattle.exchange.proofs.Asking.{asking, stays}
+use Rattle.exchange.proofs.Floats.{holds}
+use Rattle.exchange.proofs.DistrictWriting.{Ringed, ringed, few-are, district-length}
+use Rattle.exchange.proofs.write_district.Statement.{statement}
+use Rattle.exchange.proofs.write_district.Tie as tie
+
+is-count-requires : tie.Need-is-count-requires
+is-count-requires c κs = search needs
+
+refused-requires : tie.Need-refused-requires
+refused-requires c κs = search needs
+
+returns : tie.Need-returns
+returns c =
+    let a = c .before .before .before .before .before .before .before .args in
+    (search asking depth 7, stays _ _ (district (now (a .lengths)) (now (a .xs)) (now (a .ys))) (now (a .out)) (c .refused .ensures))
+
+total-requires : tie.Need-total-requires
+total-requires c κs = few-are (length (now (c .before .before .before .before .before .before .args .lengths))) (c .before .is-count .ensures) (c .if1 .left)
+
+refused-requires-2 : tie.Need-refused-requires-2
+refused-requires-2 c κs = search needs
+
+returns-2 : tie.Need-returns-2
+returns-2 c =
+    let a = c .before .before .before .before .before .before .before .before .before .args in
+    (search asking depth 7, stays _ _ (district (now (a .lengths)) (now (a .xs)) (now (a .ys))) (now (a .out)) (c .refused2 .ensures))
+
+are-rings-requires : tie.Need-are-rings-requires
+are-rings-requires c κs = search needs
+
+refused-requires-3 : tie.Need-refused-requires-3
+refused-requires-3 c κs = search needs
+
+returns-3 : tie.Need-returns-3
+returns-3 c =
+    let a = c .before .before .before .before .before .before .before .before .before .before .before .args in
+    (search asking depth 7, stays _ _ (district (now (a .lengths)) (now (a .xs)) (now (a .ys))) (now (a .out)) (c .refused3 .ensures))
+
+are-low-requires : tie.Need-are-low-requires
+are-low-requires c κs = search needs
+
+refused-requires-4 : tie.Need-refused-requires-4
+refused-requires-4 c κs = search needs
+
+returns-4 : tie.Need-returns-4
+returns-4 c =
+    let a = c .before .before .before .before .before .before .before .before .before .before .before .before .before .args in
+    (search asking depth 7, stays _ _ (district (now (a .lengths)) (now (a .xs)) (now (a .ys))) (now (a .out)) (c .refused4 .ensures))
+
+mul-size : tie.Need-mul-size
+mul-size c =
+    let a = c .before .before .before .before .before .before .before .before .before .before .before .before .args in
+    let h : Ringed (now (a .lengths)) (now (a .xs)) (now (a .ys)) = search (ringed, needs) in
+    omega arith
+
+mul-size-2 : tie.Need-mul-size-2
+mul-size-2 c =
+    let a = c .before .before .before .before .before .before .before .before .before .before .before .before .args in
+    let h : Ringed (now (a .lengths)) (now (a .xs)) (now (a .ys)) = search (ringed, needs) in
+    omega arith
+
+add-size : tie.Need-add-size
+add-size c =
+    let a = c .before .before .before .before .before .before .before .before .before .before .before .before .args in
+    let h : Ringed (now (a .lengths)) (now (a .xs)) (now (a .ys)) = search (ringed, needs) in
+    omega arith
+
+add-size-2 : tie.Need-add-size-2
+add-size-2 c =
+    let a = c .before .before .before .before .before .before .before .before .before .before .before .before .args in
+    let h : Ringed (now (a .lengths)) (now (a .xs)) (now (a .ys)) = search (ringed, needs) in
+    omega arith
+
+refused-requires-5 : tie.Need-refused-requires-5
+refused-requires-5 c κs = search needs
+
+returns-5 : tie.Need-returns-5
+returns-5 c =
+    let a = c .before .before .before .before .before .before .before .before .before .before .before .before .before .before .args in
+    let h : Ringed (now (a .lengths)) (now (a .xs)) (now (a .ys)) = search (ringed, needs) in
+    let f : length (now (a .out)) < district-size (now (a .lengths)) = omega arith in
+    (h .passed (length (now (a .out))) (search asking depth 4), stays _ _ (district (now (a .lengths)) (now (a .xs)) (now (a .ys))) (now (a .out)) (c .refused5 .ensures))
+
+put-district-requires : tie.Need-put-district-requires
+put-district-requires c κs =
+    let a = c .before .before .before .before .before .before .before .before .before .before .before .before .before .before .args in
+    let h : Ringed (now (a .lengths)) (now (a .xs)) (now (a .ys)) = search (ringed, needs) in
+    (h .few, (holds (h .sized), ((h .all-xs, h .all-ys), omega arith)))
+
+same-length : tie.Need-same-length
+same-length c = search needs
+
+returns-6 : tie.Need-returns-6
+returns-6 c =
+    let a = c .before .before .before .before .before .before .before .before .before .before .before .before .before .before .before .before .before .args in
+    let h : Ringed (now (a .lengths)) (now (a .xs)) (now (a .ys)) = search (ringed, needs) in
+    let n = length (now (a .lengths)) in
+    let size : 9 + (29 * n + 16 * length (now (a .xs))) ≡ district-size (now (a .lengths)) = omega arith in
+    let fits : district-size (now (a .lengths)) ≤ length (now (a .out)) = omega arith in (
+      h .passed (length (now (a .out))) (search asking depth 4),
+      c .before .before .put-district .ensures
+          ∙ put-front (district (now (a .lengths)) (now (a .xs)) (now (a .ys))) (now (a .out)) (omega (arith, district-length (now (a .lengths)) (now (a .xs)) (now (a .ys)) (omega arith) (omega arith))),
+    )
+
+pub write-district-spec : {M : Type 1} → statement M
+write-district-spec =
+    tie.close
+    (tie.spec
+    is-count-requires
+    refused-requires
+    returns
+    total-requires
+    refused-requires-2
+    returns-2
+    are-rings-requires
+    refused-requires-3
+    returns-3
+    are-low-requires
+    refused-requires-4
+    returns-4
+    mul-size
+    mul-size-2
+    add-size
+    add-size-2
+    refused-requires-5
+    returns-5
+    put-district-requires
+    same-length
+    returns-6)
