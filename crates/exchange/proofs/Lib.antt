@@ -8,6 +8,7 @@ pub mod Lengths
 pub mod Positions
 pub mod Heads
 pub mod Polygons
+pub mod Parts
 pub mod Words
 pub mod Lows
 pub mod Placed
