@@ -212,6 +212,13 @@ module _ (s : List ℕ) (places : ℕ) (g : gives tt ≡ fault (type-asks s 0 6 
     pub head-read : not t ≡ false → n ≤ places → gives n ≡ asked (district-head-asks s places) (ring-count s)
     head-read f l = then-places f (passes-below (ring-count s) places 29 5 [] (ring-count s) (omega (arith, is)) (ends (ring-count s) (ap gives is)))
 
+-- a fault of the head is the file's
+pub head-refused : (s : List ℕ) (places room number place : ℕ) → refused number place ≡ asked (district-head-asks s places) (ring-count s)
+    → refused number place ≡ district-answer s places room
+head-refused s places room number place e =
+    stops-first (district-asks s places room) _ (district-end s) (ring-count s) number place
+    (stops-first (district-head-asks s places) (parts-asks s (ring-count s) 9 room) (ring-count s) (district-end s) number place e refl) refl
+
 -- ---- a head that was read: its count is m
 
 module _ (s : List ℕ) (places m : ℕ) (answer : gives m ≡ asked (district-head-asks s places) (ring-count s)) where
