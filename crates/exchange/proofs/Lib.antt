@@ -9,6 +9,7 @@ pub mod Positions
 pub mod Heads
 pub mod Polygons
 pub mod Parts
+pub mod DistrictFiles
 pub mod Words
 pub mod Lows
 pub mod Placed

@@ -1,6 +1,6 @@
 -- `exchange::read_district` meets its contract: the whole file is scanned, and only then the lists are filled.
-use Prim.Native.Nat.{ℕ, _≤_, min}
-use mathlib.Core.Path.{_≡_, sym, ap, _∙_}
+use Prim.Native.Nat.{_≤_, min}
+use mathlib.Core.Path.{sym, ap, _∙_}
 use native.Mathlib.Omega.{arith}
 use borrow.Author.Needs.{needs}
 use denote.Ref.{now}
@@ -8,7 +8,8 @@ use lib.ListN.{length}
 use Rattle.exchange.specs.Answers.{districted}
 use Rattle.exchange.specs.Districts.{total, parts-xs, parts-ys, part-lengths, ring-count, district-answer, district-lengths, district-xs, district-ys}
 use Rattle.exchange.proofs.Asking.{stays}
-use Rattle.exchange.proofs.Parts.{district-good, total-fits, xs-length, ys-length, lengths-length, filled-parts}
+use Rattle.exchange.proofs.DistrictFiles.{district-good}
+use Rattle.exchange.proofs.Parts.{total-fits, xs-length, ys-length, lengths-length, filled-parts}
 use Rattle.exchange.proofs.read_district.Statement.{statement}
 use Rattle.exchange.proofs.read_district.Tie as tie
 

@@ -1,6 +1,6 @@
 -- `exchange::districts::fill_part` meets its contract: the polygon is taken, so its ring is there and has room.
-use Prim.Native.Nat.{ℕ, _+_, _*_, _-_, _≤_, min}
-use mathlib.Core.Path.{_≡_, refl, sym, ap, _∙_}
+use Prim.Native.Nat.{ℕ, _+_, _-_, min}
+use mathlib.Core.Path.{_≡_, ap, _∙_}
 use native.Mathlib.Omega.{arith}
 use borrow.Author.Needs.{needs}
 use denote.Ref.{now}
@@ -66,8 +66,10 @@ returns c =
     let s = now (a .s) in
     let n = ap (λ (k : ℕ). k - 1) (c .before .before .before .before .before .before .before .number4 .ensures .0) in (
       n,
-      (c .before .before .before .before .fill .ensures .0 ∙ ap (λ (k : ℕ). sets (now (a .xs)) 0 (grids k (order-at s (a .at)) s (a .at + 13))) n,
-      c .before .before .before .before .fill .ensures .1 ∙ ap (λ (k : ℕ). sets (now (a .ys)) 0 (grids k (order-at s (a .at)) s (a .at + 13 + 8))) n),
+      (
+        c .before .before .before .before .fill .ensures .0 ∙ ap (λ (k : ℕ). sets (now (a .xs)) 0 (grids k (order-at s (a .at)) s (a .at + 13))) n,
+        c .before .before .before .before .fill .ensures .1 ∙ ap (λ (k : ℕ). sets (now (a .ys)) 0 (grids k (order-at s (a .at)) s (a .at + 13 + 8))) n,
+      ),
     )
 
 pub fill-part-spec : {M : Type 1} → statement M

@@ -1,8 +1,7 @@
 -- `exchange::districts::fill_parts` meets its contract. The loop's invariant: what is left to fill makes the lists what the whole makes of them.
-use Prim.Native.Nat.{ℕ, _+_, _*_, _-_, _≤_, min}
+use Prim.Native.Nat.{ℕ, _+_, _-_, _≤_, min}
 use mathlib.Core.Path.{_≡_, refl, sym, ap, _∙_, subst}
 use native.Mathlib.Omega.{arith}
-use borrow.Author.Needs.{needs}
 use borrow.Rule.Slice.PartMut.{midOf, putMid, mid-len}
 use denote.Ref.{now}
 use lib.ListN.{length, length-set}

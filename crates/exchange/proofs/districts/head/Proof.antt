@@ -6,7 +6,7 @@ use Rattle.exchange.specs.Answers.{faulty}
 use Rattle.exchange.specs.Reading.{type-asks}
 use Rattle.exchange.specs.Districts.{ring-count}
 use Rattle.exchange.proofs.Asking.{stops-first}
-use Rattle.exchange.proofs.Parts.{no-count, other-count, no-places, head-read}
+use Rattle.exchange.proofs.DistrictFiles.{no-count, other-count, no-places, head-read}
 use Rattle.exchange.proofs.districts.head.Statement.{statement}
 use Rattle.exchange.proofs.districts.head.Tie as tie
 

@@ -1,6 +1,6 @@
 -- `exchange::districts::scan_parts` meets its contract. The loop's invariant: what is left to look at from `place` on, with the room that is left,
 -- has the answer of the whole.
-use Prim.Native.Nat.{ℕ, _+_, _*_, _-_, _≤_}
+use Prim.Native.Nat.{ℕ, _-_, _≤_}
 use mathlib.Core.Path.{_≡_, sym, ap, _∙_}
 use native.Mathlib.Omega.{arith}
 use borrow.Author.Needs.{needs}
