@@ -8,6 +8,8 @@ pub mod Lengths
 pub mod Positions
 pub mod Heads
 pub mod Polygons
+pub mod Parts
+pub mod DistrictFiles
 pub mod Words
 pub mod Lows
 pub mod Placed
