@@ -24,7 +24,8 @@ use Rattle.exchange.proofs.Shapes.{not-both, either-fails, typed, typed
 use Rattle.exchange.proofs.Refused.{polygon-refused-exactly}
 use Rattle.exchange.proofs.ReadExactly.{polygon-taken-exactly}
 use Rattle.exchange.proofs.WriteExactly.{lows-exactly}
-use Rattle.exchange.proofs.DistrictLaws.{rings-exactly, district-head-good, district-head-passes, district-good, district-given}
+use Rattle.exchange.proofs.DistrictLaws.{rings-exactly}
+use Rattle.exchange.proofs.DistrictFiles.{district-head-good, district-head-passes, district-good, district-given}
 
 -- ---- polygons one after another
 

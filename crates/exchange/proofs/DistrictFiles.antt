@@ -4,14 +4,17 @@ use mathlib.Core.Path.{_≡_, refl, sym, ap, _∙_, subst}
 use mathlib.Core.Bool.{Bool, true, false, not, _&&_}
 use mathlib.Core.List.{List, [], _∷_}
 use native.Mathlib.Omega.{arith}
-use borrow.Author.Tests.{leb-true}
+use borrow.Author.Tests.{leb-true, le-leb}
 use lib.Dec.{leb}
 use lib.ListN.{length}
+use Rattle.laws.proofs.Test.{and-iff}
 use Rattle.exchange.specs.Answers.{must, Answer, gives, refused, asked}
 use Rattle.exchange.specs.Reading.{type-asks}
 use Rattle.exchange.specs.Districts.{parts-asks, ring-count, district-end, ring-count-asks, district-head-asks, district-asks, district-answer}
-use Rattle.exchange.proofs.Asking.{fault, passes-all, stops-first, stops-call, passes-call, stops-above, passes-below, ends, given-is}
-use Rattle.exchange.proofs.Heads.{passed-one, passed-both}
+use Rattle.exchange.specs.DistrictRefusals.{GoodDistrictHead}
+use Rattle.exchange.proofs.Asking.{fault, passes, passes-all, stops-first, stops-call, passes-call, stops-above, passes-below, ends, given-is, gives-other}
+use Rattle.exchange.proofs.Heads.{passed-one, passed-all, passed-both}
+use Rattle.exchange.proofs.Shapes.{typed, typed-passes}
 use Rattle.exchange.proofs.Parts.{parted, Fine}
 
 -- ---- the head of a file, after a byte order and a type that are good
@@ -47,23 +50,39 @@ head-refused s places room number place e =
     stops-first (district-asks s places room) _ (district-end s) (ring-count s) number place
     (stops-first (district-head-asks s places) (parts-asks s (ring-count s) 9 room) (ring-count s) (district-end s) number place e refl) refl
 
+-- ---- a head that is good
+
+module _ (s : List ℕ) (places : ℕ) where
+  abbrev c : ℕ
+  c = ring-count s
+
+  abbrev heads : Answer ℕ
+  heads = asked (district-head-asks s places) c
+
+  pub district-head-good : {n : ℕ} → gives n ≡ heads → GoodDistrictHead s places
+  district-head-good e =
+      let q = passed-both (type-asks s 0 6 22) (ring-count-asks s places) (tt {0}) c e in
+      let q1 = passed-one (leb 9 (length s)) 20 5 _ c (q .1) in
+      let q2 = passed-one (leb 1 c && leb c 32) 35 5 _ c (q1 .1) in
+      let q3 = passed-one (leb c places) 29 5 [] c (q2 .1) in
+      let b = and-iff .0 (q2 .0) in
+      ((typed s 0 6 22 (q .0), leb-true 9 (length s) (q1 .0), leb-true 1 c (b .0), leb-true c 32 (b .1)), leb-true c places (q3 .0))
+
+  pub district-head-passes : GoodDistrictHead s places → gives c ≡ heads
+  district-head-passes h =
+      passes-all (type-asks s 0 6 22) (ring-count-asks s places) (tt {0}) c (typed-passes s 0 6 22 (h .0 .0))
+      (passes-below 9 (length s) _ _ _ _ (h .0 .1)
+      (passes _ _ _ _ _ (and-iff .1 (le-leb 1 c (h .0 .2), le-leb c 32 (h .0 .3)))
+      (passes-below c places _ _ _ _ (h .1) (ends c refl))))
+
 -- ---- a head that was read: its count is m
 
 module _ (s : List ℕ) (places m : ℕ) (answer : gives m ≡ asked (district-head-asks s places) (ring-count s)) where
   count-is : m ≡ ring-count s
   count-is = given-is (district-head-asks s places) (ring-count s) answer
 
-  counts : gives m ≡ asked (ring-count-asks s places) (ring-count s)
-  counts = passed-both (type-asks s 0 6 22) (ring-count-asks s places) (tt {0}) (ring-count s) answer .1
-
   pub head-there : 9 ≤ length s
-  head-there = leb-true 9 (length s) (passed-one (leb 9 (length s)) 20 5 _ _ counts .0)
-
-  head-few : ring-count s ≤ places
-  head-few =
-      let q1 = passed-one (leb 9 (length s)) 20 5 _ _ counts in
-      let q2 = passed-one (leb 1 (ring-count s) && leb (ring-count s) 32) 35 5 _ _ (q1 .1) in
-      leb-true (ring-count s) places (passed-one (leb (ring-count s) places) 29 5 _ _ (q2 .1) .0)
+  head-there = district-head-good s places answer .0 .1
 
   module _ (room : ℕ) where
     then-parts : {A : Type 0} {x : Answer A} (a : A) → x ≡ asked (parts-asks s (ring-count s) 9 room) a → x ≡ asked (district-asks s places room) a
@@ -95,21 +114,49 @@ module _ (s : List ℕ) (places m : ℕ) (answer : gives m ≡ asked (district-h
 
 -- ---- the whole
 
--- a file whose n polygons are taken
-pub record Taken (s : List ℕ) (places room n : ℕ) : Type 0 where
+-- a file whose n rings are taken
+pub record Mapping (s : List ℕ) (places room n : ℕ) : Type 0 where
+  pub head : GoodDistrictHead s places
   pub counted : n ≡ ring-count s
-  pub few : n ≤ places
-  pub fine : Fine s n 9 room
+  pub fine : gives tt ≡ fault (parts-asks s (ring-count s) 9 room)
+  pub all-read : length s ≤ district-end s
 
-pub district-good : (s : List ℕ) (places room n : ℕ) → gives n ≡ district-answer s places room → Taken s places room n
-district-good s places room n e =
-    let m : ℕ = ring-count s in
-    let is : n ≡ m = given-is _ m e in
-    let q1 = passed-both (district-asks s places room) (must (leb (length s) (district-end s)) 28 (district-end s) ∷ []) (district-end s) m e in
-    let q2 = passed-both (district-head-asks s places) (parts-asks s m 9 room) m (district-end s) (q1 .0) in
-    let few : m ≤ places = head-few s places m (q2 .0) in
-    record {
-      counted = is;
-      few = omega arith;
-      fine = subst (λ (k : ℕ). Fine s k 9 room) (sym is) (q2 .1);
-    }
+module _ (s : List ℕ) (places room n : ℕ) where
+  abbrev m : ℕ
+  m = ring-count s
+
+  abbrev end : ℕ
+  end = district-end s
+
+  pub district-good : district-answer s places room ≡ gives n → Mapping s places room n
+  district-good e =
+      let q = passed-both (district-asks s places room) (must (leb (length s) end) 28 end ∷ []) m m (sym e) in
+      let p = passed-both (district-head-asks s places) (parts-asks s m 9 room) m m (q .0) in
+      let o = passed-one (leb (length s) end) 28 end [] m (q .1) in
+      record {
+        head = district-head-good s places (p .0);
+        counted = passed-all m (o .1);
+        fine = gives-other (parts-asks s m 9 room) m (tt {0}) m (p .1) refl;
+        all-read = leb-true (length s) end (o .0);
+      }
+
+  pub district-given : Mapping s places room n → district-answer s places room ≡ gives n
+  district-given g =
+      let parts = passes-all (district-head-asks s places) (parts-asks s m 9 room) m m (district-head-passes s places (g .head))
+      (gives-other (parts-asks s m 9 room) (tt {0}) m (tt {0}) (g .fine) refl) in
+      sym (passes-all (district-asks s places room) _ m m parts (passes-below (length s) end 28 end [] m (g .all-read) (ends m (ap gives (g .counted)))))
+
+-- ... as the code finds it
+module _ (s : List ℕ) (places room n : ℕ) (e : gives n ≡ district-answer s places room) where
+  g : Mapping s places room n
+  g = district-good s places room n (sym e)
+
+  pub count-is-read : n ≡ ring-count s
+  count-is-read = g .counted
+
+  pub few-places : n ≤ places
+  few-places = let few = g .head .1 in omega (arith, g .counted)
+
+  pub all-fine : Fine s n 9 room
+  all-fine =
+      subst (λ (k : ℕ). Fine s k 9 room) (sym (g .counted)) (gives-other (parts-asks s (ring-count s) 9 room) (tt {0}) (district-end s) (tt {0}) (g .fine) refl)

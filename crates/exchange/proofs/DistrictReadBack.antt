@@ -22,7 +22,8 @@ use Rattle.exchange.proofs.Placed.{begun}
 use Rattle.exchange.proofs.Polygons.{ringed-answer}
 use Rattle.exchange.proofs.ReadAfterWrite.{Writable, ring-back, xs-back, ys-back}
 use Rattle.exchange.proofs.PointsReadBack.{Orders}
-use Rattle.exchange.proofs.DistrictLaws.{low-split, rings-parts, rings-exactly, district-given}
+use Rattle.exchange.proofs.DistrictLaws.{low-split, rings-parts, rings-exactly}
+use Rattle.exchange.proofs.DistrictFiles.{district-given}
 
 -- ---- one polygon
 

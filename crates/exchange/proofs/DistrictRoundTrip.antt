@@ -49,7 +49,7 @@ write-district-then-read xs ys lengths out n e block b places room fits roomy =
     let m = mapped-of xs ys lengths (w .0) (w .1) in
     let f : List ℕ = district lengths xs ys in
     let summed = m .summed in
-    let long : length f ≡ n = district-file-length 1 (replicate (length lengths) 1) lengths xs ys (m .order-each) (omega arith) (m .same) ∙ sym (w .3) in
+    let long : length f ≡ n = district-file-length 1 (replicate (length lengths) 1) lengths xs ys (m .order-each) (omega arith) (omega (arith, m .same)) ∙ sym (w .3) in
     let front : block ≡ f = b ∙ ap (take n) (stands e refl out) ∙ take-at f (drop (length f) out) n long in
     let r = district-file-reads-back 1 (replicate (length lengths) 1) lengths xs ys m places room fits roomy in
     let answer : district-answer block places room ≡ gives (length lengths) = ap (λ (s : List ℕ). district-answer s places room) front ∙ r .0 in
@@ -74,7 +74,7 @@ read-district-then-write block oct places room n e first each out fits =
     let is : block ≡ district lengths xs ys =
     r .0 ∙ ap (λ (o : ℕ). district-file o (district-orders block) lengths xs ys) first ∙ ap (λ (os : List ℕ). district-file 1 os lengths xs ys) orders in
     let long : length block ≡ district-size lengths =
-    ap length (r .0) ∙ district-file-length (order-at block 0) (district-orders block) lengths xs ys (m .order-each) (omega arith) (m .same) in
+    ap length (r .0) ∙ district-file-length (order-at block 0) (district-orders block) lengths xs ys (m .order-each) (omega arith) (omega (arith, m .same)) in
     let answer : district-writing xs ys lengths (length out) ≡ gives (length block) =
     write-district-taken-exactly xs ys lengths (length out) (length block) .1
     ((((m .least, m .most), m .summed), m .same, m .ringed), (m .low-x, m .low-y), omega arith, long) in

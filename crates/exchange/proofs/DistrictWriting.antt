@@ -1,4 +1,4 @@
--- The writer of district files: rings' lengths one by one, polygons put one after the other, and how long they are. Assumes nothing.
+-- The writer of district files: rings' lengths one by one, and polygons put one after the other. Assumes nothing.
 use Prim.Native.Nat.{ℕ, suc, _+_, _*_, _-_, _<_, _≤_}
 use mathlib.Core.Path.{_≡_, refl, sym, ap, _∙_}
 use mathlib.Core.Bool.{Bool, true, false, not, _&&_}
@@ -12,11 +12,11 @@ use lib.Seq.{drop-cons, drop-drop, length-take-le, sets, length-sets}
 use Rattle.laws.proofs.Test.{and-iff}
 use Rattle.laws.proofs.Put.{put-next, put-rest}
 use Rattle.exchange.specs.Answers.{must, Answer, asked}
-use Rattle.exchange.specs.Bytes.{inOrder}
 use Rattle.exchange.specs.Writing.{polygon, low}
 use Rattle.exchange.specs.Districts.{polygons, district-head, district, total, rings, district-size, district-writing}
 use Rattle.exchange.proofs.Asking.{passes-call, passes-same}
-use Rattle.exchange.proofs.Lengths.{order-length, polygon-length}
+use Rattle.exchange.proofs.Lengths.{polygon-length}
+use Rattle.exchange.proofs.DistrictLaws.{rings-parts, district-head-length}
 
 -- ---- the lengths from the i-th on
 
@@ -52,35 +52,8 @@ module _ (lengths : List ℕ) (i : ℕ) where
   -- where all are rings' lengths, so is the i-th, and so are those after it
   pub rings-next : i < length lengths → rings (drop i lengths) ≡ true → (3 ≤ getD lengths i 0) × (getD lengths i 0 ≤ 1024) × (rings (drop (i + 1) lengths) ≡ true)
   rings-next h e =
-      let t = and-iff .0 (sym (rings-step h) ∙ e) in
-      let b = and-iff .0 (t .0) in
-      (leb-true 3 (getD lengths i 0) (b .0), leb-true (getD lengths i 0) 1024 (b .1), t .1)
-
--- ---- how long the file is
-
-pub polygons-length : (orders lengths xs ys : List ℕ) → length orders ≡ length lengths → total lengths ≤ length xs → total lengths ≤ length ys
-    → length (polygons orders lengths xs ys) ≡ 29 * length lengths + 16 * total lengths
-unfolding polygons total
-polygons-length [] [] xs ys e h k = refl
-polygons-length [] (n ∷ lengths) xs ys e h k = absurd (omega arith)
-polygons-length (order ∷ orders) [] xs ys e h k = absurd (omega arith)
-polygons-length (order ∷ orders) (n ∷ lengths) xs ys e h k =
-    let x : length (take n xs) ≡ n = length-take-le n xs (omega arith) in
-    let y : length (take n ys) ≡ n = length-take-le n ys (omega arith) in
-    let f : length orders ≡ length lengths = omega arith in
-    let rest = polygons-length orders lengths (drop n xs) (drop n ys) f (omega (arith, length-drop n xs)) (omega (arith, length-drop n ys)) in
-    length-append (polygon order (take n xs) (take n ys)) (polygons orders lengths (drop n xs) (drop n ys))
-    ∙ omega (arith, polygon-length order (take n xs) (take n ys) (x ∙ sym y), rest)
-
-pub district-head-length : (order count : ℕ) → length (district-head order count) ≡ 9
-district-head-length order count =
-    length-append (order ∷ inOrder order 4 6) (inOrder order 4 count) ∙ omega (arith, order-length order 4 6, order-length order 4 count)
-
-pub district-length : (lengths xs ys : List ℕ) → total lengths ≤ length xs → total lengths ≤ length ys → length (district lengths xs ys) ≡ district-size lengths
-district-length lengths xs ys h k =
-    let n : ℕ = length lengths in
-    length-append (district-head 1 n) (polygons (replicate n 1) lengths xs ys)
-    ∙ omega (arith, district-head-length 1 n, polygons-length (replicate n 1) lengths xs ys (length-replicate n 1) h k)
+      let s : suc i ≡ i + 1 = omega arith in
+      rings-parts (getD lengths i 0) (drop (i + 1) lengths) (ap (λ (k : ℕ). rings (getD lengths i 0 ∷ drop k lengths)) (sym s) ∙ ap rings (sym (drop-cons lengths i 0 h)) ∙ e)
 
 -- ---- polygons put one after the other
 

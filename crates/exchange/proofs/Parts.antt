@@ -3,10 +3,10 @@ use Prim.Native.Nat.{ℕ, zero, suc, _+_, _*_, _-_, _<_, _≤_}
 use mathlib.Core.Path.{_≡_, refl, sym, ap, _∙_, subst}
 use mathlib.Core.List.{List, [], _∷_, _++_}
 use native.Mathlib.Omega.{arith}
-use lib.ListN.{length, drop, length-append}
+use lib.ListN.{length, length-append}
 use lib.Seq.{sets}
-use Rattle.laws.proofs.Put.{put-next, put-front}
-use Rattle.exchange.specs.Answers.{Answer, gives, refused, asked, over}
+use Rattle.laws.proofs.Put.{put-next}
+use Rattle.exchange.specs.Answers.{Answer, gives, refused, asked}
 use Rattle.exchange.specs.Coordinates.{gridAt}
 use Rattle.exchange.specs.Reading.{order-at, length-at, end, polygon-asks, xs-at, ys-at}
 use Rattle.exchange.specs.Districts.{total, parts-asks, parts-end, part-lengths, parts-xs, parts-ys}
@@ -169,15 +169,3 @@ module _ (s : List ℕ) where
         lengths-step l next e =
             put-part-step (part-lengths s) (length-at s at ∷ []) (λ j. lengths-next j at) 1 refl i l next
             (e ∙ ap (λ (m : ℕ). sets l i (m ∷ [])) is)
-
--- nothing is left to put
-pub put-none : (parts : ℕ → ℕ → List ℕ) → ((at : ℕ) → parts 0 at ≡ []) → (k i at from : ℕ) → k ≤ i → (l : List ℕ) → l ≡ sets l from (parts (k - i) at)
-put-none parts none k i at from h l =
-    let e : 0 ≡ k - i = omega arith in
-    ap (sets l from) (sym (none at) ∙ ap (λ (m : ℕ). parts m at) e)
-
--- a list that n polygons' numbers were put into: it has them in front, and past them stays
-pub filled-parts : (parts : ℕ → ℕ → List ℕ) (n m at : ℕ) → n ≡ m → (old new : List ℕ) → length (parts n at) ≤ length old → new ≡ sets old 0 (parts n at)
-    → new ≡ over (gives n) (parts m at) old
-filled-parts parts n m at is old new h e =
-    e ∙ put-front (parts n at) old h ∙ ap (λ (k : ℕ). parts k at ++ drop (length (parts k at)) old) is

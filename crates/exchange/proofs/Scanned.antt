@@ -105,6 +105,20 @@ positions-asked (suc n) order s at =
 
 -- ---- the numbers that stand one after another
 
+-- ---- numbers put into a list, n things' from a place on
+
+-- nothing is left to put
+pub put-none : (parts : ℕ → ℕ → List ℕ) → ((at : ℕ) → parts 0 at ≡ []) → (n i at from : ℕ) → n ≤ i → (l : List ℕ) → l ≡ sets l from (parts (n - i) at)
+put-none parts none n i at from h l =
+    let e : 0 ≡ n - i = omega arith in
+    ap (sets l from) (sym (none at) ∙ ap (λ (k : ℕ). parts k at) e)
+
+-- the list has them in front, and past them stays
+pub filled-list : (parts : ℕ → ℕ → List ℕ) (n m at : ℕ) → n ≡ m → (old new : List ℕ) → length (parts n at) ≤ length old → new ≡ sets old 0 (parts n at)
+    → new ≡ over (gives n) (parts m at) old
+filled-list parts n m at is old new h e =
+    e ∙ put-front (parts n at) old h ∙ ap (λ (k : ℕ). parts k at ++ drop (length (parts k at)) old) is
+
 module _ (step : ℕ) (number : ℕ → ℕ) where
   pub row-length : (k at : ℕ) → length (row step number k at) ≡ k
   unfolding row
@@ -130,14 +144,10 @@ module _ (step : ℕ) (number : ℕ → ℕ) where
       ∙ ap (sets l i) (sym (ap (λ (m : ℕ). row step number m at) k ∙ row-next (n - (i + 1)) at))
 
   pub fill-end : (n i at : ℕ) → n ≤ i → (l : List ℕ) → l ≡ sets l i (row step number (n - i) at)
-  fill-end n i at h l =
-      let e : 0 ≡ n - i = omega arith in
-      ap (sets l i) (sym (row-none at) ∙ ap (λ (k : ℕ). row step number k at) e)
+  fill-end n i at h l = put-none (row step number) row-none n i at i h l
 
-  -- a list that n of them were put into: it has them in front, and past them stays
   pub filled-row : (n m at : ℕ) → n ≡ m → (old new : List ℕ) → n ≤ length old → new ≡ sets old 0 (row step number n at)
       → new ≡ over (gives n) (row step number m at) old
   filled-row n m at is old new h e =
       let l : length (row step number n at) ≡ n = row-length n at in
-      e ∙ put-front (row step number n at) old (omega arith)
-      ∙ ap (λ (k : ℕ). row step number k at ++ drop (length (row step number k at)) old) is
+      filled-list (row step number) n m at is old new (omega arith) e

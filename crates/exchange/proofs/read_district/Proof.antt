@@ -8,8 +8,9 @@ use lib.ListN.{length}
 use Rattle.exchange.specs.Answers.{districted}
 use Rattle.exchange.specs.Districts.{total, parts-xs, parts-ys, part-lengths, ring-count, district-answer, district-lengths, district-xs, district-ys}
 use Rattle.exchange.proofs.Asking.{stays}
-use Rattle.exchange.proofs.DistrictFiles.{district-good}
-use Rattle.exchange.proofs.Parts.{total-fits, xs-length, ys-length, lengths-length, filled-parts}
+use Rattle.exchange.proofs.DistrictFiles.{count-is-read, few-places, all-fine}
+use Rattle.exchange.proofs.Parts.{total-fits, xs-length, ys-length, lengths-length}
+use Rattle.exchange.proofs.Scanned.{filled-list}
 use Rattle.exchange.proofs.read_district.Statement.{statement}
 use Rattle.exchange.proofs.read_district.Tie as tie
 
@@ -42,8 +43,7 @@ fill-parts-requires c κs =
     let m = min (length (now (a .xs))) (length (now (a .ys))) in
     let n = c .before .before .before .before .found .given .0 .0 in
     let answer = sym (ap districted (c .before .before .before .before .found .given .1)) ∙ c .before .before .before .before .before .before .district-at .ensures ∙ ap (district-answer s (length (now (a .lengths)))) (c .before .before .before .before .before .before .before .lesser .ensures) in
-    let r = district-good s (length (now (a .lengths))) m n answer in
-    (r .fine, r .few)
+    (all-fine s (length (now (a .lengths))) m n answer, few-places s (length (now (a .lengths))) m n answer)
 
 same-length : tie.Need-same-length
 same-length c = search needs
@@ -61,15 +61,15 @@ returns-2 c =
     let m = min (length (now (a .xs))) (length (now (a .ys))) in
     let n = c .before .before .before .before .before .before .before .before .before .before .before .found .given .0 .0 in
     let answer = sym (ap districted (c .before .before .before .before .before .before .before .before .before .before .before .found .given .1)) ∙ c .before .before .before .before .before .before .before .before .before .before .before .before .before .district-at .ensures ∙ ap (district-answer s (length (now (a .lengths)))) (c .before .before .before .before .before .before .before .before .before .before .before .before .before .before .lesser .ensures) in
-    let r = district-good s (length (now (a .lengths))) m n answer in
+    let is = count-is-read s (length (now (a .lengths))) m n answer in
     let q = c .before .before .before .before .before .before .fill-parts in
-    let fits : total (part-lengths s n 9) ≤ m = total-fits s n 9 m (r .fine) in (
+    let fits : total (part-lengths s n 9) ≤ m = total-fits s n 9 m (all-fine s (length (now (a .lengths))) m n answer) in (
       answer,
       (
-        filled-parts (parts-xs s) n (ring-count s) 9 (r .counted) (now (a .xs)) _ (omega (arith, xs-length s n 9)) (q .ensures .0),
+        filled-list (parts-xs s) n (ring-count s) 9 is (now (a .xs)) _ (omega (arith, xs-length s n 9)) (q .ensures .0),
         (
-          filled-parts (parts-ys s) n (ring-count s) 9 (r .counted) (now (a .ys)) _ (omega (arith, ys-length s n 9)) (q .ensures .1 .0),
-          filled-parts (part-lengths s) n (ring-count s) 9 (r .counted) (now (a .lengths)) _ (omega (arith, lengths-length s n 9, r .few)) (q .ensures .1 .1),
+          filled-list (parts-ys s) n (ring-count s) 9 is (now (a .ys)) _ (omega (arith, ys-length s n 9)) (q .ensures .1 .0),
+          filled-list (part-lengths s) n (ring-count s) 9 is (now (a .lengths)) _ (omega (arith, lengths-length s n 9, few-places s (length (now (a .lengths))) m n answer)) (q .ensures .1 .1),
         ),
       ),
     )

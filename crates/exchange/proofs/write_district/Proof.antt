@@ -4,12 +4,13 @@ use mathlib.Core.Path.{_≡_, _∙_}
 use native.Mathlib.Omega.{arith}
 use borrow.Author.Needs.{needs}
 use denote.Ref.{now}
-use lib.ListN.{length}
+use lib.ListN.{length, replicate, length-replicate}
 use Rattle.laws.proofs.Put.{put-front}
 use Rattle.exchange.specs.Districts.{district, district-size}
 use Rattle.exchange.proofs.Asking.{asking, stays}
 use Rattle.exchange.proofs.Floats.{holds}
-use Rattle.exchange.proofs.DistrictWriting.{Ringed, ringed, few-are, district-length}
+use Rattle.exchange.proofs.DistrictWriting.{Ringed, ringed, few-are}
+use Rattle.exchange.proofs.DistrictLaws.{district-file-length}
 use Rattle.exchange.proofs.write_district.Statement.{statement}
 use Rattle.exchange.proofs.write_district.Tie as tie
 
@@ -109,7 +110,7 @@ returns-6 c =
     let fits : district-size (now (a .lengths)) ≤ length (now (a .out)) = omega arith in (
       h .passed (length (now (a .out))) (search asking depth 4),
       c .before .before .put-district .ensures
-          ∙ put-front (district (now (a .lengths)) (now (a .xs)) (now (a .ys))) (now (a .out)) (omega (arith, district-length (now (a .lengths)) (now (a .xs)) (now (a .ys)) (omega arith) (omega arith))),
+          ∙ put-front (district (now (a .lengths)) (now (a .xs)) (now (a .ys))) (now (a .out)) (omega (arith, district-file-length 1 (replicate (length (now (a .lengths))) 1) (now (a .lengths)) (now (a .xs)) (now (a .ys)) (length-replicate (length (now (a .lengths))) 1) (omega arith) (omega arith))),
     )
 
 pub write-district-spec : {M : Type 1} → statement M
