@@ -1,6 +1,7 @@
 // One thin function for each public call, for programs in other languages that compare or measure the library. Lent memory is passed on as it
 // is. Answers go into four lent numbers: 0 and the values, or 1, the refusal's number and its place.
 use exchange::Coordinate;
+use exchange::District;
 use exchange::Judged;
 use exchange::Reading;
 use exchange::Surveyed;
@@ -170,4 +171,40 @@ pub extern "C" fn port_read_points(
 #[no_mangle]
 pub extern "C" fn port_sent(block: &[u8], place: usize, answer: &mut [u64; 4], value: &mut f64) {
     judged(exchange::sent(block, place), answer, value);
+}
+
+#[no_mangle]
+pub extern "C" fn port_write_district(
+    xs: &[u16],
+    ys: &[u16],
+    lengths: &[u16],
+    out: &mut [u8],
+    answer: &mut [u64; 4],
+) {
+    match exchange::write_district(xs, ys, lengths, out) {
+        Written::Bytes(bytes) => {
+            *answer = [0, bytes as u64, 0, 0];
+        }
+        Written::Refused(refusal) => {
+            *answer = refused(refusal);
+        }
+    }
+}
+
+#[no_mangle]
+pub extern "C" fn port_read_district(
+    block: &[u8],
+    xs: &mut [u16],
+    ys: &mut [u16],
+    lengths: &mut [u16],
+    answer: &mut [u64; 4],
+) {
+    match exchange::read_district(block, xs, ys, lengths) {
+        District::Rings(rings) => {
+            *answer = [0, rings as u64, 0, 0];
+        }
+        District::Refused(refusal) => {
+            *answer = refused(refusal);
+        }
+    }
 }

@@ -89,6 +89,17 @@ impl Memory {
     }
 }
 
+/// Rings one after another, and their lengths.
+#[derive(Clone, Debug, PartialEq, Eq, Default)]
+pub struct Rings {
+    pub xs: Vec<u16>,
+    pub ys: Vec<u16>,
+    pub lengths: Vec<u16>,
+}
+
+/// Places of an x list, a y list and a list of lengths.
+pub type Room = (usize, usize, usize);
+
 pub fn noise(length: usize, random: &mut Random) -> Vec<u8> {
     (0..length).map(|_| random.next() as u8).collect()
 }
@@ -275,6 +286,41 @@ impl Comparison<'_> {
         self.pass(good);
         let read = library?.min(room.0).min(room.1);
         Ok((here.0[..read].to_vec(), here.1[..read].to_vec()))
+    }
+
+    pub fn write_district(&mut self, rings: &Rings, room: usize) -> Option<Vec<u8>> {
+        let Rings { xs, ys, lengths } = rings;
+        let lent = Fenced::noise(room, &mut self.random, |n| n as u8);
+        let (mut here, mut there) = (lent.clone(), lent.clone());
+        let library = self.library.write_district(xs, ys, lengths, &mut here);
+        let second = self.second.write_district(xs, ys, lengths, &mut there);
+        let input = (rings, room);
+        let good = self.answers(Call::WriteDistrict, &input, &library, &second)
+            && self.memory(Call::WriteDistrict, &input, library.is_err(), &lent, &here, &there);
+        self.pass(good);
+        library.ok().and_then(|bytes| here.get(..bytes).map(<[u8]>::to_vec))
+    }
+
+    /// The rings read, from lists with so many places for x, y and lengths.
+    pub fn read_district(&mut self, block: &[u8], room: Room) -> Result<Rings, Refusal> {
+        let mut list = |length: usize| Fenced::noise(length, &mut self.random, |n| n as u16);
+        let lent = (list(room.0), list(room.1), list(room.2));
+        let (mut here, mut there) = (lent.clone(), lent.clone());
+        let library = self.library.read_district(block, &mut here.0, &mut here.1, &mut here.2);
+        let second = self.second.read_district(block, &mut there.0, &mut there.1, &mut there.2);
+        let input = (block, room);
+        let good = self.answers(Call::ReadDistrict, &input, &library, &second)
+            && self.memory(Call::ReadDistrict, &input, library.is_err(), &lent, &here, &there);
+        self.pass(good);
+        let rings = library?;
+        let lengths: Vec<u16> = here.2.iter().take(rings).copied().collect();
+        let read = lengths.iter().map(|&n| n as usize).sum();
+        let stayed = here.0.get(read..) == lent.0.get(read..)
+            && here.1.get(read..) == lent.1.get(read..)
+            && here.2.get(rings..) == lent.2.get(rings..);
+        self.among("places past the rings stay", &input, &here, &lent, stayed);
+        let front = |list: &[u16]| list.iter().take(read).copied().collect();
+        Ok(Rings { xs: front(&here.0), ys: front(&here.1), lengths })
     }
 
     pub fn judge(&mut self, block: &[u8], order: u8, place: usize) -> Result<Coordinate, Refusal> {

@@ -13,6 +13,8 @@ pub enum Call {
     Judge,
     Points,
     Sent,
+    WriteDistrict,
+    ReadDistrict,
     Polygon,
     Printed,
     /// What one side's answers must have among themselves.
@@ -31,9 +33,28 @@ impl Call {
             Call::Judge => "judge",
             Call::Points => "read_points",
             Call::Sent => "sent",
+            Call::WriteDistrict => "write_district",
+            Call::ReadDistrict => "read_district",
             Call::Polygon => "outline_polygon",
             Call::Printed => "printed list",
             Call::Among => "among themselves",
+        }
+    }
+
+    /// Places up to this one lie at the front. A district's polygons lie past its head's last field.
+    fn front(self) -> usize {
+        match self {
+            Call::ReadDistrict => 5,
+            _ => 0,
+        }
+    }
+
+    /// Refusals whose place can lie past the front.
+    fn placed(self, number: u8) -> bool {
+        match self {
+            Call::Polygon => false,
+            Call::ReadDistrict => number != 35,
+            _ => PLACED.contains(&number),
         }
     }
 }
@@ -43,7 +64,7 @@ const GIVEN: u8 = 0;
 const ENOUGH: u64 = 100;
 
 /// What each call must have answered at least a hundred times.
-const WANTED: [(Call, &[u8]); 11] = [
+const WANTED: [(Call, &[u8]); 13] = [
     (Call::Check, &[GIVEN, 1, 2, 3, 5, 6, 7, 8, 9, 10, 11, 12, 13]),
     (Call::Draw, &[GIVEN, 1, 2, 3, 4, 5, 6, 7, 8, 9, 10, 11, 12, 13]),
     (Call::Outline, &[GIVEN]),
@@ -53,11 +74,13 @@ const WANTED: [(Call, &[u8]); 11] = [
     (Call::Judge, &[GIVEN, 20, 21]),
     (Call::Points, &[GIVEN, 20, 21, 22, 24, 25, 26, 28, 29, 33]),
     (Call::Sent, &[GIVEN, 20]),
+    (Call::WriteDistrict, &[GIVEN, 30, 31, 32, 35, 36]),
+    (Call::ReadDistrict, &[GIVEN, 20, 21, 22, 23, 24, 25, 26, 27, 28, 29, 35]),
     (Call::Polygon, &[GIVEN, 1, 2, 3, 5, 6, 7, 8, 9, 10, 11, 12, 13, 32]),
     (Call::Printed, &[GIVEN, 2, 3, 5, 6, 7, 8, 9, 10, 11, 12, 13, 40]),
 ];
 
-/// Refusals whose place can differ from 0, for the calls that give one.
+/// Refusals whose place can differ from 0.
 const PLACED: [u8; 14] = [5, 6, 7, 8, 9, 10, 11, 13, 20, 25, 26, 27, 28, 33];
 
 #[derive(Default)]
@@ -66,7 +89,7 @@ pub struct Counts {
     pub failed: u64,
     pub offices: u64,
     pub largest: usize,
-    /// For each call and number: how often, and how often with a place other than 0.
+    /// For each call and number: how often, and how often with a place past the front.
     given: BTreeMap<(Call, u8), (u64, u64)>,
 }
 
@@ -74,10 +97,10 @@ impl Counts {
     pub fn count(&mut self, call: Call, number: u8, place: usize) {
         let (all, past) = self.given.entry((call, number)).or_default();
         *all += 1;
-        *past += (place != 0) as u64;
+        *past += (place > call.front()) as u64;
     }
 
-    /// One line a call: each number with how often it was given, and how often at a place other than 0.
+    /// One line a call: each number with how often it was given, and how often at a place past the front.
     pub fn print(&self) {
         for (call, _) in WANTED.iter().chain([&(Call::Among, &[][..])]) {
             let mut line = format!("{:<16}", call.name());
@@ -101,8 +124,8 @@ impl Counts {
                 if all < ENOUGH {
                     missing.push(format!("{} gave {number} only {all} times", call.name()));
                 }
-                if past < ENOUGH && PLACED.contains(&number) && call != Call::Polygon {
-                    missing.push(format!("{} gave {number} only {past} times with a place other than 0", call.name()));
+                if past < ENOUGH && number != GIVEN && call.placed(number) {
+                    missing.push(format!("{} gave {number} only {past} times with a place past {}", call.name(), call.front()));
                 }
             }
         }

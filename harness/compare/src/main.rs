@@ -1,4 +1,4 @@
-//! Compares the library with the second program on random and damaged offices, byte blocks and texts.
+//! Compares the library with the second program on random and damaged offices, byte blocks, district files and texts.
 //!
 //!     compare [--seed S]                  the fixed rounds
 //!     compare --seed S --seconds N        rounds for N seconds
@@ -9,6 +9,7 @@
 
 mod comparison;
 mod counts;
+mod districts;
 mod rounds;
 
 use comparison::Comparison;

@@ -4,10 +4,10 @@ use crate::comparison::{noise, office, Comparison, Memory, Slack};
 use offices::{accepted, damaged, garbage, Damage, Kind, Random, Sheet};
 use second::{Coordinate, Tally};
 
-const LAST: u32 = u32::MAX;
+pub const LAST: u32 = u32::MAX;
 
 /// Floats that are close to grid numbers, and some that are far.
-const STRANGE: [f64; 20] = [
+pub const STRANGE: [f64; 20] = [
     f64::INFINITY,
     f64::NEG_INFINITY,
     f64::NAN,
@@ -38,7 +38,15 @@ fn points_block(sheet: &Sheet) -> Vec<u8> {
     low_first(sheet.xs.iter().zip(&sheet.ys).flat_map(|(&x, &y)| [x, y]))
 }
 
-fn in_order(order: u8, bits: u64) -> [u8; 8] {
+pub fn word(order: u8, number: u32) -> [u8; 4] {
+    if order == 0 {
+        number.to_be_bytes()
+    } else {
+        number.to_le_bytes()
+    }
+}
+
+pub fn in_order(order: u8, bits: u64) -> [u8; 8] {
     if order == 0 {
         bits.to_be_bytes()
     } else {
@@ -48,7 +56,6 @@ fn in_order(order: u8, bits: u64) -> [u8; 8] {
 
 /// The points as a surveyor's file: the first order is the head's, the others are the Points'.
 fn point_file(orders: &[u8], xs: &[u16], ys: &[u16]) -> Vec<u8> {
-    let word = |order: u8, number: u32| if order == 0 { number.to_be_bytes() } else { number.to_le_bytes() };
     let mut file = vec![orders[0]];
     file.extend(word(orders[0], 4));
     file.extend(word(orders[0], xs.len() as u32));
@@ -302,7 +309,7 @@ impl Comparison<'_> {
             self.coordinates(&block, ring, room, every);
             for count in [0, 1, 3, 4, ring as u32, ring as u32 + 2, 1_025, 1_026, 65_536 + 4, LAST] {
                 let mut bad = block.clone();
-                bad[9..13].copy_from_slice(&if block[0] == 0 { count.to_be_bytes() } else { count.to_le_bytes() });
+                bad[9..13].copy_from_slice(&word(block[0], count));
                 let _ = self.read(&bad, room);
                 let enough = 1_023 + self.random.below(3);
                 let _ = self.read(&bad, (1_024, enough));
@@ -396,7 +403,7 @@ impl Comparison<'_> {
         }
         for count in [0, 1, 2, 3, points as u32 - 1, points as u32 + 1, 1_024, 1_025, 65_536 + 3, LAST] {
             let mut bad = file.clone();
-            bad[5..9].copy_from_slice(&if file[0] == 0 { count.to_be_bytes() } else { count.to_le_bytes() });
+            bad[5..9].copy_from_slice(&word(file[0], count));
             let _ = self.read_points(&bad, room);
             let enough = 1_023 + self.random.below(3);
             let _ = self.read_points(&bad, (1_024, enough));
@@ -498,7 +505,7 @@ impl Comparison<'_> {
         }
     }
 
-    /// One round: an office of each kind, each damage, garbage, blocks and texts. Rounds grow now and then.
+    /// One round: an office of each kind, each damage, garbage, blocks, texts and districts. Rounds grow now and then.
     pub fn round(&mut self, round: u64) {
         for kind in Kind::ALL {
             let most = match round {
@@ -524,6 +531,7 @@ impl Comparison<'_> {
         let sheet = accepted(*self.random.clone().pick(&Kind::ALL), 7, &mut self.random);
         self.texts(&sheet, if round % 16 == 0 { 1 } else { 23 });
         self.c_blocks(&sheet);
+        self.districts(round);
     }
 
     /// The largest offices of each kind, damaged and not, some of middle size, and the largest rings.

@@ -16,6 +16,8 @@ pub trait Library {
     fn judge(&self, block: &[u8], order: u8, place: usize) -> Result<Coordinate, Refusal>;
     fn read_points(&self, block: &[u8], xs: &mut [u16], ys: &mut [u16]) -> Result<usize, Refusal>;
     fn sent(&self, block: &[u8], place: usize) -> Result<Coordinate, Refusal>;
+    fn write_district(&self, xs: &[u16], ys: &[u16], lengths: &[u16], out: &mut [u8]) -> Result<usize, Refusal>;
+    fn read_district(&self, block: &[u8], xs: &mut [u16], ys: &mut [u16], lengths: &mut [u16]) -> Result<usize, Refusal>;
     fn outline_polygon(&self, points: &[u8], triangles: &[u8], limit: u32, out: &mut [u8]) -> i64;
     /// What the list printer prints for a text.
     fn printed(&self, text: &[u8]) -> Vec<u8>;
@@ -56,6 +58,14 @@ impl Library for Second {
 
     fn sent(&self, block: &[u8], place: usize) -> Result<Coordinate, Refusal> {
         Second::sent(self, block, place)
+    }
+
+    fn write_district(&self, xs: &[u16], ys: &[u16], lengths: &[u16], out: &mut [u8]) -> Result<usize, Refusal> {
+        Second::write_district(self, xs, ys, lengths, out)
+    }
+
+    fn read_district(&self, block: &[u8], xs: &mut [u16], ys: &mut [u16], lengths: &mut [u16]) -> Result<usize, Refusal> {
+        Second::read_district(self, block, xs, ys, lengths)
     }
 
     fn outline_polygon(&self, points: &[u8], triangles: &[u8], limit: u32, out: &mut [u8]) -> i64 {

@@ -35,6 +35,14 @@ extern "C" {
         block: *const u8, block_len: usize, xs: *mut u16, xs_len: usize, ys: *mut u16, ys_len: usize, answer: &mut Answer,
     );
     fn port_sent(block: *const u8, block_len: usize, place: usize, answer: &mut Answer, value: &mut f64);
+    fn port_write_district(
+        xs: *const u16, xs_len: usize, ys: *const u16, ys_len: usize, lengths: *const u16, lengths_len: usize,
+        out: *mut u8, out_len: usize, answer: &mut Answer,
+    );
+    fn port_read_district(
+        block: *const u8, block_len: usize, xs: *mut u16, xs_len: usize, ys: *mut u16, ys_len: usize,
+        lengths: *mut u16, lengths_len: usize, answer: &mut Answer,
+    );
     fn outline_polygon(
         points: *const u8, points_len: usize, triangles: *const u8, triangles_len: usize, limit: u32, out: *mut u8, out_len: usize,
     ) -> i64;
@@ -143,6 +151,30 @@ impl Library for Port {
         let (mut answer, mut value) = ([UNSET; 4], f64::NAN);
         unsafe { port_sent(block.as_ptr(), block.len(), place, &mut answer, &mut value) };
         judged(answer, value)
+    }
+
+    #[rustfmt::skip]
+    fn write_district(&self, xs: &[u16], ys: &[u16], lengths: &[u16], out: &mut [u8]) -> Result<usize, Refusal> {
+        let mut answer = [UNSET; 4];
+        unsafe {
+            port_write_district(
+                xs.as_ptr(), xs.len(), ys.as_ptr(), ys.len(), lengths.as_ptr(), lengths.len(),
+                out.as_mut_ptr(), out.len(), &mut answer,
+            )
+        };
+        taken(answer).map(|values| values[0] as usize)
+    }
+
+    #[rustfmt::skip]
+    fn read_district(&self, block: &[u8], xs: &mut [u16], ys: &mut [u16], lengths: &mut [u16]) -> Result<usize, Refusal> {
+        let mut answer = [UNSET; 4];
+        unsafe {
+            port_read_district(
+                block.as_ptr(), block.len(), xs.as_mut_ptr(), xs.len(), ys.as_mut_ptr(), ys.len(),
+                lengths.as_mut_ptr(), lengths.len(), &mut answer,
+            )
+        };
+        taken(answer).map(|values| values[0] as usize)
     }
 
     #[rustfmt::skip]

@@ -50,7 +50,11 @@ pub(crate) struct Cursor<'a> {
     pub big: bool,
 }
 
-impl Cursor<'_> {
+impl<'a> Cursor<'a> {
+    pub fn start(block: &'a [u8]) -> Cursor<'a> {
+        Cursor { block, at: 0, big: false }
+    }
+
     pub fn field(&mut self, width: usize) -> Result<(u64, usize), Refusal> {
         let at = self.at;
         let Some(bytes) = self.block.get(at..at + width) else { return refuse(20, at) };
@@ -61,54 +65,110 @@ impl Cursor<'_> {
         }
         Ok((value, at))
     }
+
+    /// The byte order and the type that a shape begins with.
+    pub fn begin(&mut self, kind: u64, number: u8) -> Result<(), Refusal> {
+        match self.field(1)? {
+            (order @ 0..=1, _) => self.big = order == 0,
+            (_, at) => return refuse(21, at),
+        }
+        match self.field(4)? {
+            (found, _) if found == kind => Ok(()),
+            (_, at) => refuse(number, at),
+        }
+    }
+
+    /// No bytes are left over.
+    pub fn end(&self) -> Result<(), Refusal> {
+        if self.at != self.block.len() {
+            return refuse(28, self.at);
+        }
+        Ok(())
+    }
+}
+
+/// Whether a ring may have so many points.
+pub(crate) fn is_ring(points: usize) -> bool {
+    (3..=MOST_POINTS).contains(&points)
+}
+
+/// Whether every coordinate lies on the grid.
+pub(crate) fn are_low(xs: &[u16], ys: &[u16]) -> bool {
+    xs.iter().chain(ys).all(|&c| c <= GREATEST_COORDINATE)
+}
+
+/// The polygon of a ring, little-endian.
+pub(crate) fn polygon_bytes(xs: &[u16], ys: &[u16]) -> Vec<u8> {
+    let mut bytes = vec![1, 3, 0, 0, 0, 1, 0, 0, 0];
+    bytes.extend((xs.len() as u32 + 1).to_le_bytes());
+    for i in (0..xs.len()).chain([0]) {
+        bytes.extend(Coordinate::to_bits(xs[i]).to_le_bytes());
+        bytes.extend(Coordinate::to_bits(ys[i]).to_le_bytes());
+    }
+    bytes
+}
+
+/// Puts bytes at the front of an output that has room for them.
+pub(crate) fn put(bytes: &[u8], out: &mut [u8]) -> Result<usize, Refusal> {
+    let Some(front) = out.get_mut(..bytes.len()) else { return refuse(32, 0) };
+    front.copy_from_slice(bytes);
+    Ok(bytes.len())
+}
+
+/// Fills the fronts of the lists.
+pub(crate) fn fill(read: &[(u16, u16)], xs: &mut [u16], ys: &mut [u16]) {
+    for ((&(x, y), to_x), to_y) in read.iter().zip(xs).zip(ys) {
+        (*to_x, *to_y) = (x, y);
+    }
 }
 
 impl Second {
     pub fn write(&self, xs: &[u16], ys: &[u16], out: &mut [u8]) -> Result<usize, Refusal> {
-        if xs.len() != ys.len() || !(3..=MOST_POINTS).contains(&xs.len()) {
+        if xs.len() != ys.len() || !is_ring(xs.len()) {
             return refuse(30, 0);
         }
-        if xs.iter().chain(ys).any(|&c| c > GREATEST_COORDINATE) {
+        if !are_low(xs, ys) {
             return refuse(31, 0);
         }
-        let count = xs.len() + 1;
-        let mut bytes = vec![1, 3, 0, 0, 0, 1, 0, 0, 0];
-        bytes.extend((count as u32).to_le_bytes());
-        for i in (0..xs.len()).chain([0]) {
-            bytes.extend(Coordinate::to_bits(xs[i]).to_le_bytes());
-            bytes.extend(Coordinate::to_bits(ys[i]).to_le_bytes());
-        }
-        let Some(front) = out.get_mut(..bytes.len()) else { return refuse(32, 0) };
-        front.copy_from_slice(&bytes);
-        Ok(bytes.len())
+        put(&polygon_bytes(xs, ys), out)
     }
 
     pub fn read(&self, block: &[u8], xs: &mut [u16], ys: &mut [u16]) -> Result<usize, Refusal> {
-        let mut cursor = Cursor { block, at: 0, big: false };
-        match cursor.field(1)? {
-            (0, _) => cursor.big = !self.is(Wrong::CountsLittleEndian),
-            (1, _) => (),
-            (_, at) => return refuse(21, at),
+        let mut cursor = Cursor::start(block);
+        let mut ring = Vec::new();
+        let answer = self.polygon_at(&mut cursor, xs.len().min(ys.len()), &mut ring);
+        if self.is(Wrong::WritesBeforeFault) {
+            fill(&ring, xs, ys);
         }
-        let (kind, at) = cursor.field(4)?;
-        if kind != 3 {
-            return refuse(22, at);
+        answer?;
+        if !self.is(Wrong::IgnoresBytesLeft) {
+            cursor.end()?;
+        }
+        fill(&ring, xs, ys);
+        Ok(ring.len())
+    }
+
+    /// Adds the ring of the polygon where the cursor stands to those read before, for lists that have so much room left.
+    pub(crate) fn polygon_at(&self, cursor: &mut Cursor, room: usize, read: &mut Vec<(u16, u16)>) -> Result<(), Refusal> {
+        cursor.begin(3, 22)?;
+        let big = cursor.big;
+        if self.is(Wrong::CountsLittleEndian) {
+            cursor.big = false;
         }
         let (rings, at) = cursor.field(4)?;
         if rings != 1 {
             return refuse(23, at);
         }
         let (count, at) = cursor.field(4)?;
-        if !(4..=MOST_POINTS as u64 + 1).contains(&count) {
+        if count == 0 || !is_ring(count as usize - 1) {
             return refuse(24, at);
         }
-        let ring = count as usize - 1;
-        if xs.len() < ring || ys.len() < ring {
+        if room < count as usize - 1 {
             return refuse(29, at);
         }
-        cursor.big = block[0] == 0;
-        let mut read = Vec::with_capacity(ring + 1);
-        for i in 0..=ring {
+        cursor.big = big;
+        let first = read.len();
+        for _ in 0..count {
             let position = if self.is(Wrong::PositionFirst) {
                 let (x, y) = (cursor.field(8)?, cursor.field(8)?);
                 (self.grid(x)?, self.grid(y)?)
@@ -116,21 +176,12 @@ impl Second {
                 let x = cursor.field(8).and_then(|x| self.grid(x))?;
                 (x, cursor.field(8).and_then(|y| self.grid(y))?)
             };
-            if self.is(Wrong::WritesBeforeFault) && i < ring {
-                (xs[i], ys[i]) = position;
-            }
             read.push(position);
         }
-        if read[ring] != read[0] && !self.is(Wrong::NoClosingCompare) {
+        if read.pop() != read.get(first).copied() && !self.is(Wrong::NoClosingCompare) {
             return refuse(27, cursor.at - 16);
         }
-        if cursor.at != block.len() && !self.is(Wrong::IgnoresBytesLeft) {
-            return refuse(28, cursor.at);
-        }
-        for (i, &position) in read[..ring].iter().enumerate() {
-            (xs[i], ys[i]) = position;
-        }
-        Ok(ring)
+        Ok(())
     }
 
     pub(crate) fn grid(&self, (bits, at): (u64, usize)) -> Result<u16, Refusal> {

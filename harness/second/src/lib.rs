@@ -6,6 +6,7 @@
 //! comparison can show that it notices.
 
 mod check;
+mod districts;
 mod exchange;
 mod host;
 mod peel;
@@ -20,6 +21,7 @@ pub use wrong::Wrong;
 pub const GREATEST_COORDINATE: u16 = 16_383;
 pub const MOST_POINTS: usize = 1_024;
 pub const MOST_CORNERS: usize = 6_129;
+pub const MOST_RINGS: usize = 32;
 
 /// A refusal of document 01's table: its number, and the place in brackets there.
 #[derive(Clone, Copy, Debug, PartialEq, Eq, PartialOrd, Ord)]

@@ -1,12 +1,12 @@
 //! Surveyors' point files, from document 02, 1/13: a MultiPoint of complete Points, each in a byte order of its own.
 
-use crate::exchange::{Coordinate, Cursor};
+use crate::exchange::{fill, Coordinate, Cursor};
 use crate::{refuse, Refusal, Second, Wrong, MOST_POINTS};
 
 impl Second {
     pub fn read_points(&self, block: &[u8], xs: &mut [u16], ys: &mut [u16]) -> Result<usize, Refusal> {
-        let mut cursor = Cursor { block, at: 0, big: false };
-        begin(&mut cursor, 4, 22)?;
+        let mut cursor = Cursor::start(block);
+        cursor.begin(4, 22)?;
         let file_is_big = cursor.big;
         let (count, at) = cursor.field(4)?;
         if !(3..=MOST_POINTS as u64).contains(&count) {
@@ -18,7 +18,7 @@ impl Second {
         }
         let mut points = Vec::with_capacity(count);
         for _ in 0..count {
-            begin(&mut cursor, 1, 33)?;
+            cursor.begin(1, 33)?;
             if self.is(Wrong::FileOrderInPoints) {
                 cursor.big = file_is_big;
             }
@@ -26,12 +26,8 @@ impl Second {
             let y = cursor.field(8).and_then(|y| self.grid(y))?;
             points.push((x, y));
         }
-        if cursor.at != block.len() {
-            return refuse(28, cursor.at);
-        }
-        for (i, &point) in points.iter().enumerate() {
-            (xs[i], ys[i]) = point;
-        }
+        cursor.end()?;
+        fill(&points, xs, ys);
         Ok(count)
     }
 
@@ -51,17 +47,5 @@ impl Second {
             }
         }
         nothing
-    }
-}
-
-/// The byte order and the type that a shape begins with.
-fn begin(cursor: &mut Cursor, kind: u64, number: u8) -> Result<(), Refusal> {
-    match cursor.field(1)? {
-        (order @ 0..=1, _) => cursor.big = order == 0,
-        (_, at) => return refuse(21, at),
-    }
-    match cursor.field(4)? {
-        (found, _) if found == kind => Ok(()),
-        (_, at) => refuse(number, at),
     }
 }

@@ -2,6 +2,8 @@
 
 use super::*;
 
+mod districts;
+
 const T: (&[u16], &[u16]) = (&[0, 4, 0], &[0, 0, 3]);
 
 fn office<'a>(points: (&'a [u16], &'a [u16]), corners: &'a [u16]) -> Office<'a> {

@@ -53,6 +53,14 @@ pub enum Wrong {
     CountsLittleEndian,
     /// Reads every Point of a point file in the byte order of the file.
     FileOrderInPoints,
+    /// Adds up the lengths of a district's rings in 16 bits.
+    SumIn16Bits,
+    /// Asks of each polygon of a district whether its ring alone fits the lists.
+    WholeRoomForEachRing,
+    /// Counts a district's places from the start of the polygon at fault.
+    PlaceFromPolygon,
+    /// Leaves the rings before the one at fault in the lists.
+    KeepsEarlierRings,
     /// Asks for the C function's output first.
     OutputFirst,
     /// Takes a ring of the buffer's whole length as too long.
@@ -64,7 +72,7 @@ pub enum Wrong {
 }
 
 impl Wrong {
-    pub const ALL: [Wrong; 30] = [
+    pub const ALL: [Wrong; 34] = [
         Wrong::AtLeastTheLimit,
         Wrong::NoTieOrder,
         Wrong::DirectedTieOrder,
@@ -91,6 +99,10 @@ impl Wrong {
         Wrong::IgnoresBytesLeft,
         Wrong::CountsLittleEndian,
         Wrong::FileOrderInPoints,
+        Wrong::SumIn16Bits,
+        Wrong::WholeRoomForEachRing,
+        Wrong::PlaceFromPolygon,
+        Wrong::KeepsEarlierRings,
         Wrong::OutputFirst,
         Wrong::OutlineShortOfBuffer,
         Wrong::TakesSixDigits,
