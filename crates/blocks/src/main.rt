@@ -1,10 +1,12 @@
-// What the reader answers for blocks from outside: a line each, with the ring, or with the refusal's number and place and, where a coordinate
-// is refused, what it is. A value off the grid is shown by its pattern.
+// What the readers answer for blocks from outside: a line each, with the ring or the district's rings, or with the refusal's number and place
+// and, where a polygon's coordinate is refused, what it is. A value off the grid is shown by its pattern.
 mod stored;
 
 use exchange::Coordinate;
+use exchange::District;
 use exchange::Judged;
 use exchange::Reading;
+use sheet::Refusal;
 ghost use Prim.Native.Nat.{_≤_};
 ghost use lib.ListN.{length};
 
@@ -15,16 +17,62 @@ fn show_position(x: u16, y: u16) {
     io::print_decimal(1, y as u64);
 }
 
-// The first n positions.
-fn show_ring(xs: &[u16], ys: &[u16], n: usize)
+// The positions from one place up to another.
+fn show_positions(xs: &[u16], ys: &[u16], from: usize, to: usize)
     requires { ⌜ length (now xs) ≤ length (now ys) ⌝ }
 {
     let mut i = 0;
     while i < xs.len() {
-        if i < n {
-            show_position(xs[i], ys[i]);
+        if from <= i {
+            if i < to {
+                show_position(xs[i], ys[i]);
+            }
         }
         i += 1;
+    }
+}
+
+fn show_ring(xs: &[u16], ys: &[u16], from: usize, to: usize)
+    requires { ⌜ length (now xs) ≤ length (now ys) ⌝ }
+{
+    if from < to {
+        io::write_all(1, b" ring of ");
+        io::print_decimal(1, (to - from) as u64);
+        io::write_all(1, b":");
+        show_positions(xs, ys, from, to);
+    }
+}
+
+fn wide(x: u16) -> usize
+    ensures { λ r. ⌜ r ≤ 65535 ⌝ }
+{
+    x as usize
+}
+
+// The length of the i-th of n rings, and 0 past them.
+fn length_of(lengths: &[u16; 8], i: usize, n: usize) -> usize
+    ensures { λ r. ⌜ r ≤ 65535 ⌝ }
+{
+    if n <= i {
+        return 0;
+    }
+    if 8 <= i {
+        return 0;
+    }
+    wide(lengths[i])
+}
+
+// The first n rings, one after another in the lists.
+fn show_rings(xs: &[u16], ys: &[u16], lengths: &[u16; 8], n: usize)
+    requires { ⌜ length (now xs) ≤ length (now ys) ⌝ }
+{
+    let mut i = 0;
+    let mut from = 0;
+    while i < 8 {
+        let to = from + length_of(lengths, i, n);
+        show_ring(xs, ys, from, to);
+        i += 1;
+        from = to;
     }
 }
 
@@ -51,6 +99,13 @@ fn show_coordinate(block: &[u8], place: usize) {
     }
 }
 
+fn show_refusal(r: Refusal) {
+    io::write_all(1, b": refused ");
+    io::print_decimal(1, r.number as u64);
+    io::write_all(1, b" ");
+    io::print_decimal(1, r.place as u64);
+}
+
 fn show(name: &[u8], block: &[u8]) {
     let mut xs = [0u16; 16];
     let mut ys = [0u16; 16];
@@ -58,23 +113,38 @@ fn show(name: &[u8], block: &[u8]) {
     let answer = exchange::read(block, &mut xs, &mut ys);
     match answer {
         Reading::Ring(n) => {
-            io::write_all(1, b": ring of ");
-            io::print_decimal(1, n as u64);
             io::write_all(1, b":");
-            show_ring(&xs, &ys, n);
+            show_ring(&xs, &ys, 0, n);
         }
         Reading::Refused(r) => {
             let number = r.number;
             let place = r.place;
-            io::write_all(1, b": refused ");
-            io::print_decimal(1, number as u64);
-            io::write_all(1, b" ");
-            io::print_decimal(1, place as u64);
+            show_refusal(r);
             if 25 <= number {
                 if number <= 26 {
                     show_coordinate(block, place);
                 }
             }
+        }
+    }
+    io::write_all(1, b"\n");
+}
+
+fn show_district(name: &[u8], block: &[u8]) {
+    let mut xs = [0u16; 16];
+    let mut ys = [0u16; 16];
+    let mut lengths = [0u16; 8];
+    io::write_all(1, name);
+    let answer = exchange::read_district(block, &mut xs, &mut ys, &mut lengths);
+    match answer {
+        District::Rings(n) => {
+            io::write_all(1, b": district of ");
+            io::print_decimal(1, n as u64);
+            io::write_all(1, b":");
+            show_rings(&xs, &ys, &lengths, n);
+        }
+        District::Refused(r) => {
+            show_refusal(r);
         }
     }
     io::write_all(1, b"\n");
@@ -118,9 +188,26 @@ fn show_damaged() {
     show(b"no bytes", b"");
 }
 
+fn show_districts() {
+    show_district(b"a district", &stored::DISTRICT_GEOS);
+    show_district(b"a district, big-endian", &stored::DISTRICT_GDAL_BIG);
+    show_district(b"a district of mixed byte orders", &stored::DISTRICT_MIXED);
+    show_district(b"a district of one", &stored::DISTRICT_ONE_GEOS);
+    show_district(b"an empty district", &stored::DISTRICT_EMPTY_GDAL);
+}
+
+fn show_other_districts() {
+    show_district(b"the second not closed", &stored::DISTRICT_OPEN);
+    show_district(b"no room for the second", &stored::DISTRICT_LONG_GEOS);
+    show_district(b"a district and a byte more", &stored::DISTRICT_LEFT_OVER);
+    show_district(b"a polygon for a district", &stored::SQUARE_GEOS_LITTLE);
+}
+
 fn main() {
     show_taken();
     show_other_shapes();
     show_other_rings();
     show_damaged();
+    show_districts();
+    show_other_districts();
 }

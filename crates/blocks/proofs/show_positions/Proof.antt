@@ -1,16 +1,16 @@
--- `blocks::show_ring` meets its contract.
+-- `blocks::show_positions` meets its contract.
 use Prim.Native.Nat.{_≤_, _-_}
 use native.Mathlib.Omega.{arith}
 use borrow.Author.Needs.{needs}
 use lib.ListN.{length}
-use Rattle.blocks.proofs.show_ring.Statement.{statement}
-use Rattle.blocks.proofs.show_ring.Tie as tie
+use Rattle.blocks.proofs.show_positions.Statement.{statement}
+use Rattle.blocks.proofs.show_positions.Tie as tie
 
 abbrev Inv-loop : tie.InvT-loop
-Inv-loop xs ys n i₀ i = i ≤ length xs
+Inv-loop xs ys from to i₀ i = i ≤ length xs
 
 abbrev μ-loop : tie.MeasureT-loop
-μ-loop xs ys n i₀ i = length xs - i
+μ-loop xs ys from to i₀ i = length xs - i
 
 loop-holds : tie.Need-loop-holds Inv-loop μ-loop
 loop-holds c = omega arith
@@ -42,8 +42,8 @@ loop-again c = omega arith
 returns : tie.Need-returns Inv-loop μ-loop
 returns c = search needs
 
-pub show-ring-spec : {M : Type 1} → statement M
-show-ring-spec =
+pub show-positions-spec : {M : Type 1} → statement M
+show-positions-spec =
     tie.close
     (tie.spec
     Inv-loop
