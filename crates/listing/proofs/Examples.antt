@@ -13,8 +13,8 @@ pub example-parsed : parsed (53 ∷ 32 ∷ 52 ∷ 10 ∷ 48 ∷ 32 ∷ 48 ∷ 32
 unfolding parsed parted digits value-from values table
 example-parsed = refl
 
--- its two lines, and a refusal's
-pub example-lines : (line 100 0 200 (0 ∷ 1 ∷ 2 ∷ 3 ∷ []) ≡ (49 ∷ 48 ∷ 48 ∷ 32 ∷ 48 ∷ 32 ∷ 50 ∷ 48 ∷ 48 ∷ 32 ∷ 48 ∷ 32 ∷ 49 ∷ 32 ∷ 50 ∷ 32 ∷ 51 ∷ 10 ∷ [])) × (line 0 1 180 (0 ∷ 4 ∷ 1 ∷ 2 ∷ 3 ∷ []) ≡ (48 ∷ 32 ∷ 49 ∷ 32 ∷ 49 ∷ 56 ∷ 48 ∷ 32 ∷ 48 ∷ 32 ∷ 52 ∷ 32 ∷ 49 ∷ 32 ∷ 50 ∷ 32 ∷ 51 ∷ 10 ∷ [])) × (refusal-line 40 0 ≡ (114 ∷ 101 ∷ 102 ∷ 117 ∷ 115 ∷ 101 ∷ 100 ∷ 32 ∷ 52 ∷ 48 ∷ 32 ∷ 48 ∷ 10 ∷ []))
+-- its two lines, with 2/13's order among equal lengths, and a refusal's
+pub example-lines : (line 100 0 200 (0 ∷ 1 ∷ 2 ∷ 3 ∷ []) ≡ (49 ∷ 48 ∷ 48 ∷ 32 ∷ 48 ∷ 32 ∷ 50 ∷ 48 ∷ 48 ∷ 32 ∷ 48 ∷ 32 ∷ 49 ∷ 32 ∷ 50 ∷ 32 ∷ 51 ∷ 10 ∷ [])) × (line 0 1 150 (0 ∷ 1 ∷ 2 ∷ 3 ∷ 4 ∷ []) ≡ (48 ∷ 32 ∷ 49 ∷ 32 ∷ 49 ∷ 53 ∷ 48 ∷ 32 ∷ 48 ∷ 32 ∷ 49 ∷ 32 ∷ 50 ∷ 32 ∷ 51 ∷ 32 ∷ 52 ∷ 10 ∷ [])) × (refusal-line 40 0 ≡ (114 ∷ 101 ∷ 102 ∷ 117 ∷ 115 ∷ 101 ∷ 100 ∷ 32 ∷ 52 ∷ 48 ∷ 32 ∷ 48 ∷ 10 ∷ []))
 unfolding spelled decimal onward
 example-lines = (refl, refl, refl)
 

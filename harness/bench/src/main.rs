@@ -15,16 +15,6 @@ use std::io::Write;
 use std::process::{Command, Stdio};
 
 const SIZES: [usize; 4] = [16, 64, 256, 1_024];
-const KINDS: [Kind; 8] = [
-    Kind::Uniform,
-    Kind::Clustered,
-    Kind::Grid,
-    Kind::CollinearHull,
-    Kind::ThreePointHull,
-    Kind::AllOnHull,
-    Kind::OneCircle,
-    Kind::Bent,
-];
 const CALLS: [&str; 3] = ["check", "draw", "list"];
 
 struct Plan {
@@ -161,7 +151,7 @@ fn main() {
         println!("| office | {} |", SIZES.map(|s| format!("{s} points")).join(" | "));
         println!("|---|{}", "---:|".repeat(SIZES.len()));
         let mut rows = Vec::new();
-        for kind in KINDS {
+        for kind in Kind::ALL.into_iter().filter(|kind| kind.most() > SIZES[0]) {
             let (mut row, mut hulls) = (Vec::new(), Vec::new());
             for size in SIZES {
                 if size > kind.most() {
