@@ -100,6 +100,19 @@ impl Counts {
         *past += (place > call.front()) as u64;
     }
 
+    /// What was counted apart.
+    pub fn add(&mut self, other: Counts) {
+        self.passed += other.passed;
+        self.failed += other.failed;
+        self.offices += other.offices;
+        self.largest = self.largest.max(other.largest);
+        for (key, (all, past)) in other.given {
+            let counted = self.given.entry(key).or_default();
+            counted.0 += all;
+            counted.1 += past;
+        }
+    }
+
     /// One line a call: each number with how often it was given, and how often at a place past the front.
     pub fn print(&self) {
         for (call, _) in WANTED.iter().chain([&(Call::Among, &[][..])]) {

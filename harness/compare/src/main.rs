@@ -17,7 +17,10 @@ use counts::Counts;
 use library::{port_or_exit, Library};
 use offices::Random;
 use second::{Second, Wrong};
+use std::panic::resume_unwind;
 use std::process::exit;
+use std::sync::Mutex;
+use std::thread;
 use std::time::{Duration, Instant};
 
 const ROUNDS: u64 = 120;
@@ -50,45 +53,80 @@ fn asked() -> Asked {
     asked
 }
 
-fn comparison<'a>(library: &'a dyn Library, seed: u64, quiet: bool) -> Comparison<'a> {
-    Comparison { library, second: Second::right(), counts: Counts::default(), random: Random::seeded(seed), quiet }
+/// Rounds until there are enough, or time is up, or a comparison has seen enough differences. Each round has random numbers of
+/// its own, so how many threads take rounds changes nothing; the largest offices come once in so many rounds.
+fn run(library: &dyn Library, seed: u64, seconds: Option<u64>, quiet: bool, threads: usize) -> (u64, Counts) {
+    let start = Instant::now();
+    let enough = |round: u64| seconds.map_or(round >= ROUNDS, |s| round > 0 && start.elapsed() >= Duration::from_secs(s));
+    let next = Mutex::new((0, Random::seeded(seed), false));
+    let take = || {
+        let mut next = next.lock().unwrap();
+        let round = next.0;
+        if next.2 || enough(round) {
+            return None;
+        }
+        next.0 += 1;
+        Some((round, next.1.branch()))
+    };
+    let rounds = || {
+        let mut comparison = Comparison { library, second: Second::right(), counts: Counts::default(), random: Random::seeded(seed), quiet };
+        while let Some((round, random)) = take() {
+            comparison.random = random;
+            if round % LARGE == LARGE / 2 {
+                comparison.large();
+            }
+            comparison.round(round);
+            if comparison.over() {
+                next.lock().unwrap().2 = true;
+            }
+        }
+        comparison.counts
+    };
+    let counts = thread::scope(|scope| {
+        let running: Vec<_> = (1..threads).map(|_| scope.spawn(rounds)).collect();
+        let mut counts = rounds();
+        for thread in running {
+            counts.add(thread.join().unwrap_or_else(|panic| resume_unwind(panic)));
+        }
+        counts
+    });
+    let rounds = next.lock().unwrap().0;
+    (rounds, counts)
 }
 
-/// Rounds until there are enough, or time is up; the largest offices come once in so many rounds.
-fn run(comparison: &mut Comparison, seconds: Option<u64>) -> u64 {
-    let start = Instant::now();
-    let mut round = 0;
-    loop {
-        let mut random = comparison.random.branch();
-        std::mem::swap(&mut comparison.random, &mut random);
-        if round % LARGE == LARGE / 2 {
-            comparison.large();
-        }
-        comparison.round(round);
-        comparison.random = random;
-        round += 1;
-        let enough = seconds.map_or(round >= ROUNDS, |s| start.elapsed() >= Duration::from_secs(s));
-        if enough || comparison.over() {
-            return round;
-        }
+/// Whether a wrong program is noticed, and what is said of it.
+fn tried(way: Wrong, seed: u64) -> (bool, String) {
+    let (rounds, counts) = run(&Second::wrong(way), seed, None, true, 1);
+    if counts.failed > 0 {
+        (true, format!("noticed  {way:?}: after {} comparisons that agree, in round {rounds}", counts.passed))
+    } else {
+        (false, format!("MISSED   {way:?}: {} comparisons agree", counts.passed))
     }
 }
 
 fn mutants(seed: u64) -> (u64, u64) {
-    let (mut noticed, mut missed) = (0, 0);
-    for way in Wrong::ALL {
-        let wrong = Second::wrong(way);
-        let mut comparison = comparison(&wrong, seed, true);
-        let rounds = run(&mut comparison, None);
-        if comparison.counts.failed > 0 {
-            noticed += 1;
-            println!("noticed  {way:?}: after {} comparisons that agree, in round {rounds}", comparison.counts.passed);
-        } else {
-            missed += 1;
-            println!("MISSED   {way:?}: {} comparisons agree", comparison.counts.passed);
+    let said = Mutex::new(Vec::new());
+    let next = Mutex::new(Wrong::ALL.into_iter().enumerate());
+    thread::scope(|scope| {
+        for _ in 0..threads() {
+            scope.spawn(|| loop {
+                let Some((place, way)) = next.lock().unwrap().next() else { break };
+                let (noticed, line) = tried(way, seed);
+                said.lock().unwrap().push((place, noticed, line));
+            });
         }
+    });
+    let mut said = said.into_inner().unwrap();
+    said.sort();
+    for (_, _, line) in &said {
+        println!("{line}");
     }
-    (noticed, missed)
+    let noticed = said.iter().filter(|(_, noticed, _)| *noticed).count() as u64;
+    (noticed, said.len() as u64 - noticed)
+}
+
+fn threads() -> usize {
+    thread::available_parallelism().map_or(1, |processors| processors.get())
 }
 
 fn main() {
@@ -97,10 +135,8 @@ fn main() {
         mutants(asked.seed)
     } else {
         let library = if asked.itself { Box::new(Second::right()) } else { port_or_exit() };
-        let mut comparison = comparison(&*library, asked.seed, false);
         let start = Instant::now();
-        let rounds = run(&mut comparison, asked.seconds);
-        let counts = &comparison.counts;
+        let (rounds, counts) = run(&*library, asked.seed, asked.seconds, false, threads());
         counts.print();
         let missing = counts.missing();
         for line in &missing {

@@ -6,7 +6,7 @@ mod port;
 
 use second::{Coordinate, Lent, Lists, Office, Refusal, Second, Tally};
 
-pub trait Library {
+pub trait Library: Sync {
     fn check(&self, office: Office) -> Result<usize, Refusal>;
     fn draw(&self, office: Office, limit: u32, lent: &mut Lent) -> Result<Tally, Refusal>;
     fn outline(&self, ring: &[u16], tally: Tally) -> Vec<u16>;
