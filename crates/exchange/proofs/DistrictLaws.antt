@@ -11,11 +11,11 @@ use lib.Dec.{leb}
 use lib.ListN.{length, take, drop, getD, length-append, length-drop, take-append-drop}
 use lib.Seq.{length-take-le, take-at, drop-at}
 use Rattle.laws.proofs.Test.{and-iff}
-use Rattle.exchange.specs.Bytes.{inOrder}
-use Rattle.exchange.specs.Writing.{polygon, low}
+use Rattle.shape.specs.Bytes.{inOrder}
+use Rattle.shape.specs.Writing.{polygon, low}
 use Rattle.exchange.specs.Districts.{polygons, district-head, district-file, total, rings, district-size}
 use Rattle.exchange.specs.DistrictRefusals.{Rings}
-use Rattle.exchange.proofs.Lengths.{order-length, polygon-length}
+use Rattle.shape.proofs.Lengths.{order-length, polygon-length}
 use Rattle.exchange.proofs.Lows.{low-parts, low-more, low-none}
 
 -- ---- lists in two parts

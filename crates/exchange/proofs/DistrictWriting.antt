@@ -11,11 +11,11 @@ use lib.ListN.{length, take, drop, getD, replicate, length-append, length-drop, 
 use lib.Seq.{drop-cons, drop-drop, length-take-le, sets, length-sets}
 use Rattle.laws.proofs.Test.{and-iff}
 use Rattle.laws.proofs.Put.{put-next, put-rest}
-use Rattle.exchange.specs.Answers.{must, Answer, asked}
-use Rattle.exchange.specs.Writing.{polygon, low}
+use Rattle.shape.specs.Answers.{must, Answer, asked}
+use Rattle.shape.specs.Writing.{polygon, low}
 use Rattle.exchange.specs.Districts.{polygons, district-head, district, total, rings, district-size, district-writing}
-use Rattle.exchange.proofs.Asking.{passes-call, passes-same}
-use Rattle.exchange.proofs.Lengths.{polygon-length}
+use Rattle.shape.proofs.Asking.{passes-call, passes-same}
+use Rattle.shape.proofs.Lengths.{polygon-length}
 use Rattle.exchange.proofs.DistrictLaws.{rings-parts, district-head-length}
 
 -- ---- the lengths from the i-th on

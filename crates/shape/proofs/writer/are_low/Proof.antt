@@ -1,0 +1,16 @@
+-- `exchange::writer::are_low` meets its contract.
+use borrow.Author.Needs.{needs}
+use Rattle.shape.proofs.writer.are_low.Statement.{statement}
+use Rattle.shape.proofs.writer.are_low.Tie as tie
+
+is-low-requires : tie.Need-is-low-requires
+is-low-requires c κs = search needs
+
+is-low-requires-2 : tie.Need-is-low-requires-2
+is-low-requires-2 c κs = search needs
+
+returns : tie.Need-returns
+returns c = cc
+
+pub are-low-spec : {M : Type 1} → statement M
+are-low-spec = tie.close (tie.spec is-low-requires is-low-requires-2 returns)
