@@ -1,4 +1,4 @@
--- `exchange::coordinates::coordinate_at` meets its contract.
+-- `shape::coordinates::coordinate_at` meets its contract.
 use mathlib.Core.Path.{ap, _∙_}
 use borrow.Author.Needs.{needs}
 use Rattle.shape.specs.Coordinates.{coordinate}

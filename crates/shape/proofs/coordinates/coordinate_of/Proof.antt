@@ -1,4 +1,4 @@
--- `exchange::coordinates::coordinate_of` meets its contract.
+-- `shape::coordinates::coordinate_of` meets its contract.
 use mathlib.Core.Path.{_≡_, sym, ap, _∙_, subst}
 use borrow.Author.Needs.{needs}
 use lib.Dec.{T, lit≤}

@@ -1,4 +1,4 @@
--- `exchange::coordinates::float_at` meets its contract.
+-- `shape::coordinates::float_at` meets its contract.
 use borrow.Author.Needs.{needs}
 use Rattle.shape.proofs.coordinates.float_at.Statement.{statement}
 use Rattle.shape.proofs.coordinates.float_at.Tie as tie

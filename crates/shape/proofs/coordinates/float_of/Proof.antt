@@ -1,4 +1,4 @@
--- `exchange::coordinates::float_of` meets its contract: a pattern whose part below the sign is above that of an infinity is a NaN's.
+-- `shape::coordinates::float_of` meets its contract: a pattern whose part below the sign is above that of an infinity is a NaN's.
 use mathlib.Core.Path.{_≡_, sym, ap, _∙_, subst}
 use mathlib.Core.Bool.{not}
 use borrow.Author.Needs.{needs}

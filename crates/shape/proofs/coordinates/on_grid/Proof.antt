@@ -1,4 +1,4 @@
--- `exchange::coordinates::on_grid` meets its contract: the float of the whole part has x's own pattern just where x is on the grid (`patterns`),
+-- `shape::coordinates::on_grid` meets its contract: the float of the whole part has x's own pattern just where x is on the grid (`patterns`),
 -- and a float on the grid passes both tests (`above`, `below`).
 use mathlib.Core.Path.{_≡_, sym, ap, _∙_, subst}
 use mathlib.Core.Bool.{Bool}

@@ -1,4 +1,4 @@
--- `exchange::numbers::number4` meets its contract: both byte orders.
+-- `shape::numbers::number4` meets its contract: both byte orders.
 use borrow.Author.Needs.{needs}
 use mathlib.Core.Path.{sym, _∙_}
 use denote.Ref.{now}

@@ -1,4 +1,4 @@
--- `exchange::numbers::number8` meets its contract: the two halves, in the order that the byte order says.
+-- `shape::numbers::number8` meets its contract: the two halves, in the order that the byte order says.
 use borrow.Author.Needs.{needs}
 use mathlib.Core.Path.{sym, _∙_}
 use denote.Ref.{now}

@@ -1,4 +1,4 @@
--- `exchange::numbers::put4` meets its contract.
+-- `shape::numbers::put4` meets its contract.
 use borrow.Author.Needs.{needs}
 use mathlib.Core.Path.{_≡_}
 use Prim.Native.Nat.{suc, _+_}

@@ -1,4 +1,4 @@
--- `exchange::numbers::put8` meets its contract.
+-- `shape::numbers::put8` meets its contract.
 use borrow.Author.Needs.{needs}
 use mathlib.Core.Path.{_≡_, _∙_, ap}
 use mathlib.Core.List.{List}

@@ -1,4 +1,4 @@
--- `exchange::reader::counts_fault` meets its contract: the count of rings, then that of positions.
+-- `shape::reader::counts_fault` meets its contract: the count of rings, then that of positions.
 use borrow.Author.Needs.{needs}
 use Rattle.shape.proofs.Asking.{asking}
 use Rattle.shape.proofs.reader.counts_fault.Statement.{statement}

@@ -1,4 +1,4 @@
--- `exchange::reader::fill` meets its contract. The loop's invariant: what is left to fill makes the lists what the whole makes of them.
+-- `shape::reader::fill` meets its contract. The loop's invariant: what is left to fill makes the lists what the whole makes of them.
 use Prim.Native.Nat.{ℕ, _+_, _*_, _-_, _≤_}
 use mathlib.Core.Path.{_≡_, refl, sym, ap, _∙_}
 use native.Mathlib.Omega.{arith}

@@ -1,4 +1,4 @@
--- `exchange::reader::head_at` meets its contract: the byte order and the type, then the counts.
+-- `shape::reader::head_at` meets its contract: the byte order and the type, then the counts.
 use Prim.Native.Nat.{ℕ, _+_, _-_, _≤_}
 use mathlib.Core.Path.{_≡_, refl, sym, ap, _∙_}
 use native.Mathlib.Omega.{arith}

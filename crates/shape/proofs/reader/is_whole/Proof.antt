@@ -1,4 +1,4 @@
--- `exchange::reader::is_whole` meets its contract: the difference does not wrap where the sum might.
+-- `shape::reader::is_whole` meets its contract: the difference does not wrap where the sum might.
 use Prim.Native.Nat.{_+_}
 use mathlib.Core.Path.{_≡_, sym}
 use native.Mathlib.Omega.{arith}

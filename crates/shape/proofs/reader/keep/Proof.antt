@@ -1,4 +1,4 @@
--- `exchange::reader::keep` meets its contract.
+-- `shape::reader::keep` meets its contract.
 use Prim.Native.Nat.{ℕ, _+_}
 use mathlib.Core.Path.{ap, _∙_}
 use borrow.Author.Needs.{needs}

@@ -1,4 +1,4 @@
--- `exchange::reader::polygon_at` meets its contract: the head, the positions, and the last of them.
+-- `shape::reader::polygon_at` meets its contract: the head, the positions, and the last of them.
 use Prim.Native.Nat.{ℕ, _+_, _*_, _≤_}
 use mathlib.Core.Path.{_≡_, refl, sym, ap, _∙_}
 use native.Mathlib.Omega.{arith}

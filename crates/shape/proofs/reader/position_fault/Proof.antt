@@ -1,4 +1,4 @@
--- `exchange::reader::position_fault` meets its contract: x is judged before y is looked at.
+-- `shape::reader::position_fault` meets its contract: x is judged before y is looked at.
 use mathlib.Core.Path.{refl}
 use Prim.Native.Nat.{_+_}
 use borrow.Author.Needs.{needs}

@@ -1,4 +1,4 @@
--- `exchange::reader::same_position` meets its contract.
+-- `shape::reader::same_position` meets its contract.
 use Prim.Native.Nat.{ℕ, _+_}
 use mathlib.Core.Path.{_≡_, ap, _∙_}
 use borrow.Author.Needs.{needs}

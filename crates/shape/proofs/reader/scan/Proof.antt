@@ -1,4 +1,4 @@
--- `exchange::reader::scan` meets its contract. The loop's invariant: what is left to look at from `place` on has the fault of the whole.
+-- `shape::reader::scan` meets its contract. The loop's invariant: what is left to look at from `place` on has the fault of the whole.
 use Prim.Native.Nat.{ℕ, _+_, _*_, _-_, _≤_}
 use mathlib.Core.Path.{_≡_, refl, sym, ap, _∙_}
 use mathlib.Core.List.{List}

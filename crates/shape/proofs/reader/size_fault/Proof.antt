@@ -1,4 +1,4 @@
--- `exchange::reader::size_fault` meets its contract: it asks its questions one by one.
+-- `shape::reader::size_fault` meets its contract: it asks its questions one by one.
 use borrow.Author.Needs.{needs}
 use Rattle.shape.proofs.Asking.{asking}
 use Rattle.shape.proofs.reader.size_fault.Statement.{statement}

@@ -1,4 +1,4 @@
--- `exchange::reader::type_fault` meets its contract: it asks its questions one by one.
+-- `shape::reader::type_fault` meets its contract: it asks its questions one by one.
 use borrow.Author.Needs.{needs}
 use Rattle.shape.proofs.Asking.{asking, passes-below, stops-other}
 use Rattle.shape.proofs.reader.type_fault.Statement.{statement}

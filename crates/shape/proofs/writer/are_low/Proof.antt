@@ -1,4 +1,4 @@
--- `exchange::writer::are_low` meets its contract.
+-- `shape::writer::are_low` meets its contract.
 use borrow.Author.Needs.{needs}
 use Rattle.shape.proofs.writer.are_low.Statement.{statement}
 use Rattle.shape.proofs.writer.are_low.Tie as tie

@@ -1,4 +1,4 @@
--- `exchange::writer::is_low` meets its contract. The loop's invariant: what is left is low just where the whole is.
+-- `shape::writer::is_low` meets its contract. The loop's invariant: what is left is low just where the whole is.
 use Prim.Native.Nat.{ℕ, _+_, _-_, _≤_}
 use mathlib.Core.Path.{_≡_, refl, sym, ap, _∙_}
 use native.Mathlib.Omega.{arith}

@@ -1,4 +1,4 @@
--- `exchange::writer::put_polygon` meets its contract.
+-- `shape::writer::put_polygon` meets its contract.
 use borrow.Author.Needs.{needs}
 use denote.Ref.{now}
 use Rattle.shape.proofs.Positions.{put-polygon}

@@ -1,4 +1,4 @@
--- `exchange::writer::put_position` meets its contract.
+-- `shape::writer::put_position` meets its contract.
 use borrow.Author.Needs.{needs}
 use Prim.Native.Nat.{ℕ, _+_}
 use mathlib.Core.Path.{_≡_, ap, _∙_}

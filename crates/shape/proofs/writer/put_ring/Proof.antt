@@ -1,4 +1,4 @@
--- `exchange::writer::put_ring` meets its contract. The loop's invariant: what is left to put makes the output what the whole makes of it.
+-- `shape::writer::put_ring` meets its contract. The loop's invariant: what is left to put makes the output what the whole makes of it.
 use Prim.Native.Nat.{ℕ, _+_, _*_, _-_, _≤_}
 use mathlib.Core.Path.{_≡_, refl, sym, ap, _∙_}
 use native.Mathlib.Omega.{arith}
