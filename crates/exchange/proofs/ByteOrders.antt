@@ -4,9 +4,9 @@ use mathlib.Core.Path.{_≡_, sym, ap, _∙_}
 use mathlib.Core.List.{List}
 use native.Mathlib.Omega.{arith}
 use lib.ListN.{length}
-use Rattle.exchange.specs.Answers.{gives}
-use Rattle.exchange.specs.Writing.{polygon}
-use Rattle.exchange.specs.Reading.{read-answer, xs-at, ys-at}
+use Rattle.shape.specs.Answers.{gives}
+use Rattle.shape.specs.Writing.{polygon}
+use Rattle.shape.specs.Reading.{read-answer, xs-at, ys-at}
 use Rattle.exchange.proofs.Words.{Octets}
 use Rattle.exchange.proofs.ReadAfterWrite.{read-after-write}
 use Rattle.exchange.proofs.WriteAfterRead.{write-after-read, block-good, x-long}

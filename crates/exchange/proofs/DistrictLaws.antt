@@ -1,4 +1,4 @@
--- The rings of a district's file one after another: their lengths, and how long their polygons are. Assumes nothing.
+-- The rings of a district's file one after another: their byte orders, their lengths, and how long their polygons are. Assumes nothing.
 use Prim.Native.Nat.{ℕ, zero, suc, _+_, _*_, _<_, _≤_, suc-le-suc, zero-le}
 use mathlib.Core.Path.{_≡_, refl, sym, ap, _∙_}
 use mathlib.Core.Logic.{_↔_}
@@ -8,15 +8,40 @@ use native.Mathlib.Omega.{arith}
 use native.Mathlib.Nat.{le-of-suc-le-suc}
 use borrow.Author.Tests.{leb-true, le-leb}
 use lib.Dec.{leb}
-use lib.ListN.{length, take, drop, getD, length-append, length-drop, take-append-drop}
+use lib.ListN.{length, take, drop, getD, replicate, length-append, length-drop, take-append-drop}
 use lib.Seq.{length-take-le, take-at, drop-at}
 use Rattle.laws.proofs.Test.{and-iff}
-use Rattle.exchange.specs.Bytes.{inOrder}
-use Rattle.exchange.specs.Writing.{polygon, low}
-use Rattle.exchange.specs.Districts.{polygons, district-head, district-file, total, rings, district-size}
+use Rattle.shape.specs.Bytes.{inOrder}
+use Rattle.shape.specs.Writing.{polygon, low}
+use Rattle.shape.specs.Reading.{order-at, end}
+use Rattle.exchange.specs.Districts.{parts-end, ring-count, polygons, district-head, district-file, total, rings, district-size}
 use Rattle.exchange.specs.DistrictRefusals.{Rings}
-use Rattle.exchange.proofs.Lengths.{order-length, polygon-length}
+use Rattle.shape.proofs.Lengths.{order-length, polygon-length}
 use Rattle.exchange.proofs.Lows.{low-parts, low-more, low-none}
+
+-- ---- byte orders
+
+module _ (s : List ℕ) where
+  -- the byte orders of k polygons one after another from a place on
+  unfoldable pub part-orders : ℕ → ℕ → List ℕ
+  part-orders zero at = []
+  part-orders (suc k) at = order-at s at ∷ part-orders k (end s at)
+
+  -- ... and of a file's
+  abbrev pub district-orders : List ℕ
+  district-orders = part-orders (ring-count s) 9
+
+  pub all-little : (k at : ℕ) → ((i : ℕ) → i < k → order-at s (parts-end s i at) ≡ 1) → part-orders k at ≡ replicate k 1
+  unfolding part-orders parts-end
+  all-little zero at h = refl
+  all-little (suc k) at h =
+      ap (λ (o : ℕ). o ∷ part-orders k (end s at)) (h 0 (omega arith)) ∙ ap (λ (l : List ℕ). 1 ∷ l) (all-little k (end s at) (λ i l. h (suc i) (suc-le-suc l)))
+
+  pub each-order : (k at i : ℕ) → i < k → getD (part-orders k at) i 0 ≡ order-at s (parts-end s i at)
+  unfolding part-orders parts-end
+  each-order zero at i h = absurd (omega arith)
+  each-order (suc k) at zero h = refl
+  each-order (suc k) at (suc i) h = each-order k (end s at) i (le-of-suc-le-suc h)
 
 -- ---- lists in two parts
 

@@ -3,19 +3,20 @@ use Prim.Native.Nat.{ℕ, _<_, _≤_}
 use mathlib.Core.Path.{_≡_, refl, sym, ap, _∙_}
 use mathlib.Core.List.{List, _++_}
 use native.Mathlib.Omega.{arith}
-use lib.ListN.{length, take, drop, replicate, length-replicate, getD-replicate}
+use lib.ListN.{length, take, drop, getD, replicate, length-replicate, getD-replicate}
 use lib.Seq.{take-at}
-use Rattle.exchange.specs.Answers.{Answer, gives, over}
-use Rattle.exchange.specs.Reading.{order-at}
+use Rattle.shape.specs.Answers.{Answer, gives, over}
+use Rattle.shape.specs.Reading.{order-at}
 use Rattle.exchange.specs.Districts.{district-file, district-size, district-writing, district, ring-count, district-answer, district-lengths, district-xs, district-ys}
-use Rattle.exchange.specs.Refusals.{Low}
+use Rattle.shape.specs.Refusals.{Low}
 use Rattle.exchange.specs.DistrictRefusals.{Divided, start}
-use Rattle.exchange.proofs.Asking.{stands}
+use Rattle.shape.proofs.Asking.{stands}
 use Rattle.exchange.proofs.Words.{Octets}
-use Rattle.exchange.proofs.DistrictLaws.{district-file-length}
+use Rattle.exchange.proofs.Parts.{lengths-length}
+use Rattle.exchange.proofs.DistrictLaws.{district-orders, all-little, each-order, district-file-length}
 use Rattle.exchange.proofs.DistrictExactly.{write-district-taken-exactly}
 use Rattle.exchange.proofs.DistrictReadBack.{Mapped, district-file-reads-back}
-use Rattle.exchange.proofs.DistrictWriteBack.{district-orders, all-little, write-after-read-district}
+use Rattle.exchange.proofs.DistrictWriteBack.{write-after-read-district}
 
 -- what the writer takes is such as a little-endian file can hold
 mapped-of : (xs ys lengths : List ℕ) → Divided xs ys lengths → Low xs × Low ys → Mapped 1 (replicate (length lengths) 1) lengths xs ys
@@ -52,8 +53,8 @@ write-district-then-read xs ys lengths out n e block b places room fits roomy =
     let long : length f ≡ n = district-file-length 1 (replicate (length lengths) 1) lengths xs ys (m .order-each) (omega arith) (omega (arith, m .same)) ∙ sym (w .3) in
     let front : block ≡ f = b ∙ ap (take n) (stands e refl out) ∙ take-at f (drop (length f) out) n long in
     let r = district-file-reads-back 1 (replicate (length lengths) 1) lengths xs ys m places room fits roomy in
-    let answer : district-answer block places room ≡ gives (length lengths) = ap (λ (s : List ℕ). district-answer s places room) front ∙ r .0 in
-    (answer, stands answer (ap district-lengths front ∙ r .1), stands answer (ap district-xs front ∙ r .2), stands answer (ap district-ys front ∙ r .3))
+    let answer : district-answer block places room ≡ gives (length lengths) = ap (λ (s : List ℕ). district-answer s places room) front ∙ r .answer in
+    (answer, stands answer (ap district-lengths front ∙ r .lengths-are), stands answer (ap district-xs front ∙ r .xs-are), stands answer (ap district-ys front ∙ r .ys-are))
 
 -- a block that is read as rings, little-endian in its head and in each polygon, is what `write_district` makes of those rings; past it the output stays
 pub read-district-then-write : (block : List ℕ) → Octets block → (places room n : ℕ) → district-answer block places room ≡ gives n
@@ -79,3 +80,23 @@ read-district-then-write block oct places room n e first each out fits =
     write-district-taken-exactly xs ys lengths (length out) (length block) .1
     ((((m .least, m .most), m .summed), m .same, m .ringed), (m .low-x, m .low-y), omega arith, long) in
     (answer, stands answer (sym is) out)
+
+-- ... and no other block that is read comes back: what the writer makes is little-endian throughout
+pub only-little-comes-back : (block : List ℕ) → Octets block → (places room n : ℕ) → district-answer block places room ≡ gives n
+    → block ≡ district (district-lengths block) (district-xs block) (district-ys block)
+    → (order-at block 0 ≡ 1) × ((i : ℕ) → i < ring-count block → order-at block (start block i) ≡ 1)
+only-little-comes-back block oct places room n e is =
+    let lengths : List ℕ = district-lengths block in
+    let xs : List ℕ = district-xs block in
+    let ys : List ℕ = district-ys block in
+    let k : ℕ = length lengths in
+    let m = write-after-read-district block oct places room n e .1 in
+    let one = mapped-of xs ys lengths (((m .least, m .most), m .summed), m .same, m .ringed) (m .low-x, m .low-y) in
+    let b = district-file-reads-back 1 (replicate k 1) lengths xs ys one k (length xs) (omega arith) (omega arith) in
+    let orders : district-orders block ≡ replicate k 1 = ap district-orders is ∙ b .orders-are in
+    let count : ring-count block ≡ k = sym (lengths-length block (ring-count block) 9) in (
+      ap (λ (s : List ℕ). order-at s 0) is ∙ b .head-order,
+      (λ i h.
+          sym (each-order block (ring-count block) 9 i h) ∙ ap (λ (l : List ℕ). getD l i 0) orders
+          ∙ getD-replicate {A = ℕ} k i 1 0 (omega (arith, count))),
+    )

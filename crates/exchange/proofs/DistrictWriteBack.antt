@@ -1,46 +1,30 @@
 -- A district's file that the reader takes is, byte for byte, the file of its rings in its byte orders: where all are little-endian what the writer
 -- makes. Assumes nothing.
-use Prim.Native.Nat.{ℕ, zero, suc, _+_, _*_, _-_, _<_, _≤_, suc-le-suc}
+use Prim.Native.Nat.{ℕ, zero, suc, _+_, _*_, _-_, _<_, _≤_}
 use mathlib.Core.Path.{_≡_, refl, sym, ap, _∙_}
 use mathlib.Core.Bool.{true}
 use mathlib.Core.List.{List, [], _∷_, _++_, append-assoc, append-nil}
 use native.Mathlib.Omega.{arith}
 use native.Mathlib.Nat.{le-of-suc-le-suc}
-use lib.ListN.{length, drop, replicate, length-append, drop-of-length-le}
+use lib.ListN.{length, drop, length-append, drop-of-length-le}
 use lib.Seq.{drop-cons}
-use Rattle.exchange.specs.Answers.{gives}
-use Rattle.exchange.specs.Bytes.{inOrder}
-use Rattle.exchange.specs.Writing.{polygon, low}
-use Rattle.exchange.specs.Reading.{order-at, length-at, end, polygon-asks, xs-at, ys-at}
+use Rattle.shape.specs.Answers.{gives}
+use Rattle.shape.specs.Bytes.{inOrder}
+use Rattle.shape.specs.Writing.{polygon, low}
+use Rattle.shape.specs.Reading.{order-at, length-at, end, polygon-asks, xs-at, ys-at}
 use Rattle.exchange.specs.Districts.{polygons, district-file, total, rings, parts-asks, parts-end, part-lengths, parts-xs, parts-ys, ring-count, district-end, district-answer, district-lengths, district-xs, district-ys}
-use Rattle.exchange.proofs.Asking.{fault}
-use Rattle.exchange.proofs.Heads.{passed-both}
+use Rattle.shape.proofs.Asking.{fault}
+use Rattle.shape.proofs.Heads.{passed-both}
 use Rattle.exchange.proofs.Words.{Octets, word-of}
 use Rattle.exchange.proofs.Lows.{low-none, low-exactly}
-use Rattle.exchange.proofs.Polygons.{Ringed, polygon-good}
+use Rattle.shape.proofs.Polygons.{Ringed, polygon-good}
 use Rattle.exchange.proofs.Parts.{lengths-length, xs-length, ys-length}
 use Rattle.exchange.proofs.ReadAfterWrite.{Writable}
 use Rattle.exchange.proofs.WriteAfterRead.{x-long, polygon-there, ring-writable}
 use Rattle.exchange.proofs.PointsReadBack.{Orders}
-use Rattle.exchange.proofs.DistrictLaws.{low-both, rings-more, rings-none, rings-exactly, polygons-next}
+use Rattle.exchange.proofs.DistrictLaws.{part-orders, district-orders, low-both, rings-more, rings-none, rings-exactly, polygons-next}
 use Rattle.exchange.proofs.DistrictFiles.{district-good}
 use Rattle.exchange.proofs.DistrictReadBack.{Mapped}
-
-module _ (s : List ℕ) where
-  -- the byte orders of k polygons one after another from a place on
-  unfoldable pub part-orders : ℕ → ℕ → List ℕ
-  part-orders zero at = []
-  part-orders (suc k) at = order-at s at ∷ part-orders k (end s at)
-
-  -- ... and of a file's
-  abbrev pub district-orders : List ℕ
-  district-orders = part-orders (ring-count s) 9
-
-  pub all-little : (k at : ℕ) → ((i : ℕ) → i < k → order-at s (parts-end s i at) ≡ 1) → part-orders k at ≡ replicate k 1
-  unfolding part-orders parts-end
-  all-little zero at h = refl
-  all-little (suc k) at h =
-      ap (λ (o : ℕ). o ∷ part-orders k (end s at)) (h 0 (omega arith)) ∙ ap (λ (l : List ℕ). 1 ∷ l) (all-little k (end s at) (λ i l. h (suc i) (suc-le-suc l)))
 
 orders-more : (o : ℕ) (os : List ℕ) → o ≤ 1 → Orders os → Orders (o ∷ os)
 orders-more o os h f zero l = h

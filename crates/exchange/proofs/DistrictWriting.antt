@@ -4,18 +4,18 @@ use mathlib.Core.Path.{_≡_, refl, sym, ap, _∙_}
 use mathlib.Core.Bool.{Bool, true, false, not, _&&_}
 use mathlib.Core.List.{List, [], _∷_, _++_}
 use native.Mathlib.Omega.{arith}
-use borrow.Rule.Slice.PartMut.{midOf, putMid}
+use borrow.Rule.Slice.PartMut.{midOf, putMid, mid-len}
 use borrow.Author.Tests.{leb-true, eqb-true, not-true, not-false}
 use lib.Dec.{leb, eqb}
 use lib.ListN.{length, take, drop, getD, replicate, length-append, length-drop, length-replicate, drop-of-length-le}
 use lib.Seq.{drop-cons, drop-drop, length-take-le, sets, length-sets}
 use Rattle.laws.proofs.Test.{and-iff}
 use Rattle.laws.proofs.Put.{put-next, put-rest}
-use Rattle.exchange.specs.Answers.{must, Answer, asked}
-use Rattle.exchange.specs.Writing.{polygon, low}
+use Rattle.shape.specs.Answers.{must, Answer, asked}
+use Rattle.shape.specs.Writing.{polygon, low, size}
 use Rattle.exchange.specs.Districts.{polygons, district-head, district, total, rings, district-size, district-writing}
-use Rattle.exchange.proofs.Asking.{passes-call, passes-same}
-use Rattle.exchange.proofs.Lengths.{polygon-length}
+use Rattle.shape.proofs.Asking.{passes-call, passes-same}
+use Rattle.shape.proofs.Lengths.{polygon-length}
 use Rattle.exchange.proofs.DistrictLaws.{rings-parts, district-head-length}
 
 -- ---- the lengths from the i-th on
@@ -125,6 +125,17 @@ turn {lengths} {xs} {ys} {i} {from} {room} {at} h s =
       room-left = omega arith;
       after = record { within = omega arith; sized = r .2; xs-left = omega arith; ys-left = omega arith; fits = omega arith };
     }
+
+-- the parts of the lists and of the output that the ring's polygon is put with are as long as its writer asks
+pub lent : {lengths xs ys : List ℕ} {i from room at n : ℕ} (out : List ℕ) → length out ≡ room → Turn lengths xs ys i from room at n
+    → ((1 ≤ length (midOf from (from + n - from) xs)) × (length (midOf from (from + n - from) xs) ≤ 1024))
+    × ((length (midOf from (from + n - from) xs) ≡ length (midOf from (from + n - from) ys))
+    × (size (length (midOf from (from + n - from) xs)) ≤ length (midOf at (length out - at) out)))
+lent {lengths} {xs} {ys} {i} {from} {room} {at} {n} out same h =
+    let x : length (midOf from (from + n - from) xs) ≡ n = mid-len from (from + n) xs (h .within-xs) ∙ omega arith in
+    let y : length (midOf from (from + n - from) ys) ≡ n = mid-len from (from + n) ys (h .within-ys) ∙ omega arith in
+    let o : length (midOf at (length out - at) out) ≡ length out - at = mid-len at (length out) out (omega arith) in
+    ((omega (arith, h .least), omega (arith, h .most)), (x ∙ sym y, omega (arith, h .room-left)))
 
 -- the head, and then the polygons in the part from byte 9 on
 pub put-district : (lengths xs ys out o part : List ℕ) → 9 ≤ length out

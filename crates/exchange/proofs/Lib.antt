@@ -1,13 +1,4 @@
 -- Laws that the proofs of exchange share, and the theorems about its definitions.
-pub mod Octets
-pub mod Floats
-pub mod Judgements
-pub mod Asking
-pub mod Scanned
-pub mod Lengths
-pub mod Positions
-pub mod Heads
-pub mod Polygons
 pub mod Parts
 pub mod DistrictFiles
 pub mod Words
@@ -16,8 +7,6 @@ pub mod Placed
 pub mod ReadAfterWrite
 pub mod WriteAfterRead
 pub mod ByteOrders
-pub mod Runs
-pub mod Shapes
 pub mod PointFiles
 pub mod PointsExactly
 pub mod SentExactly

@@ -11,10 +11,10 @@ use lib.Dec.{leb}
 use lib.ListN.{length, take, getD}
 use lib.Seq.{take-at, getD-at}
 use Rattle.laws.proofs.Test.{and-iff}
-use Rattle.exchange.specs.Coordinates.{gridAt}
-use Rattle.exchange.specs.Writing.{around, low}
-use Rattle.exchange.specs.Reading.{row, grids}
-use Rattle.exchange.proofs.Scanned.{row-length}
+use Rattle.shape.specs.Coordinates.{gridAt}
+use Rattle.shape.specs.Writing.{around, low}
+use Rattle.shape.specs.Reading.{row, grids}
+use Rattle.shape.proofs.Scanned.{row-length}
 
 -- ---- at most 16,383
 

@@ -6,14 +6,14 @@ use native.Mathlib.Omega.{arith}
 use lib.ListN.{length, length-append}
 use lib.Seq.{sets}
 use Rattle.laws.proofs.Put.{put-next}
-use Rattle.exchange.specs.Answers.{Answer, gives, refused, asked}
-use Rattle.exchange.specs.Coordinates.{gridAt}
-use Rattle.exchange.specs.Reading.{order-at, length-at, end, polygon-asks, xs-at, ys-at}
+use Rattle.shape.specs.Answers.{Answer, gives, refused, asked}
+use Rattle.shape.specs.Coordinates.{gridAt}
+use Rattle.shape.specs.Reading.{order-at, length-at, end, polygon-asks, xs-at, ys-at}
 use Rattle.exchange.specs.Districts.{total, parts-asks, parts-end, part-lengths, parts-xs, parts-ys}
-use Rattle.exchange.proofs.Asking.{andThen, asked-both, ends, given-is}
-use Rattle.exchange.proofs.Scanned.{row-length}
-use Rattle.exchange.proofs.Heads.{passed-both}
-use Rattle.exchange.proofs.Polygons.{Ringed, polygon-good}
+use Rattle.shape.proofs.Asking.{andThen, asked-both, ends, given-is}
+use Rattle.shape.proofs.Scanned.{row-length}
+use Rattle.shape.proofs.Heads.{passed-both}
+use Rattle.shape.proofs.Polygons.{Ringed, polygon-good}
 
 -- where a polygon ends that begins at a place and has a ring of length n
 abbrev pub past : ℕ → ℕ → ℕ

@@ -9,15 +9,15 @@ use lib.IntN.{pos}
 use lib.Ieee.{binary64, ofBits, ofInt}
 use lib.Ieee.Bits.{toBits-lt}
 use lib.Ieee.Fits.{ofInt-fits}
-use Rattle.exchange.specs.declared.Coordinate.the-variants.{Grid}
-use Rattle.exchange.specs.Answers.{gives}
-use Rattle.exchange.specs.Bytes.{inOrder, numberAt}
-use Rattle.exchange.specs.Coordinates.{coordinate, encode, coordinateAt, refusalOf}
-use Rattle.exchange.specs.Writing.{position}
-use Rattle.exchange.specs.Reading.{order-at}
-use Rattle.exchange.specs.Refusals.{Typed}
-use Rattle.exchange.proofs.Judgements.{judge-encode}
-use Rattle.exchange.proofs.Scanned.{scanned, fine-there}
+use Rattle.shape.specs.declared.Coordinate.the-variants.{Grid}
+use Rattle.shape.specs.Answers.{gives}
+use Rattle.shape.specs.Bytes.{inOrder, numberAt}
+use Rattle.shape.specs.Coordinates.{coordinate, encode, coordinateAt, refusalOf}
+use Rattle.shape.specs.Writing.{position}
+use Rattle.shape.specs.Reading.{order-at}
+use Rattle.shape.specs.Refusals.{Typed}
+use Rattle.shape.proofs.Judgements.{judge-encode}
+use Rattle.shape.proofs.Scanned.{scanned, fine-there}
 use Rattle.exchange.proofs.Words.{word-at, word-past, word-room}
 
 -- ---- a byte order and a type

@@ -6,18 +6,18 @@ use mathlib.Core.List.{List, [], _∷_, _++_, append-assoc, append-nil}
 use native.Mathlib.Omega.{arith}
 use lib.Dec.{lit<}
 use lib.ListN.{length, drop, getD, length-drop}
-use Rattle.exchange.specs.Answers.{gives}
-use Rattle.exchange.specs.Bytes.{inOrder, numberAt}
-use Rattle.exchange.specs.Coordinates.{gridOf, gridAt}
-use Rattle.exchange.specs.Writing.{position, low}
-use Rattle.exchange.specs.Reading.{run, row, coordinates, order-at, type-asks}
+use Rattle.shape.specs.Answers.{gives}
+use Rattle.shape.specs.Bytes.{inOrder, numberAt}
+use Rattle.shape.specs.Coordinates.{gridOf, gridAt}
+use Rattle.shape.specs.Writing.{position, low}
+use Rattle.shape.specs.Reading.{run, row, coordinates, order-at, type-asks}
 use Rattle.exchange.specs.Points.{point, points, point-file, point-count, point-asks, point-x, point-y, points-answer, points-xs, points-ys}
-use Rattle.exchange.specs.Refusals.{Low}
-use Rattle.exchange.proofs.Asking.{fault, ends, passes-all}
-use Rattle.exchange.proofs.Scanned.{ran, scanned, no-more}
+use Rattle.shape.specs.Refusals.{Low}
+use Rattle.shape.proofs.Asking.{fault, ends, passes-all}
+use Rattle.shape.proofs.Scanned.{ran, scanned, no-more}
 use Rattle.exchange.proofs.Words.{word-at, word-past, word-room}
 use Rattle.exchange.proofs.Lows.{low-parts, low-exactly}
-use Rattle.exchange.proofs.Shapes.{typed-passes, sized-passes}
+use Rattle.shape.proofs.Shapes.{typed-passes, sized-passes}
 use Rattle.exchange.proofs.PointFiles.{size-passed, points-passed, all-read}
 use Rattle.exchange.proofs.Placed.{Begun, begun, Placed, position-back, placed-scanned}
 

@@ -8,18 +8,18 @@ use borrow.Author.Tests.{le-leb, eq-eqb}
 use lib.Dec.{lit<}
 use lib.ListN.{length, drop, getD, length-drop, length-append}
 use Rattle.laws.proofs.Test.{and-iff}
-use Rattle.exchange.specs.Answers.{Answer, gives, asked, over}
-use Rattle.exchange.specs.Coordinates.{gridOf, gridAt}
-use Rattle.exchange.specs.Bytes.{inOrder, numberAt}
-use Rattle.exchange.specs.Writing.{position, positions, around, head, polygon, low, size}
-use Rattle.exchange.specs.Reading.{row, grids, order-at, length-at, xs-at, ys-at, polygon-asks, read-answer}
-use Rattle.exchange.proofs.Scanned.{scanned, no-more}
-use Rattle.exchange.proofs.Lengths.{around-length, around-same, head-length, polygon-length}
+use Rattle.shape.specs.Answers.{Answer, gives, asked, over}
+use Rattle.shape.specs.Coordinates.{gridOf, gridAt}
+use Rattle.shape.specs.Bytes.{inOrder, numberAt}
+use Rattle.shape.specs.Writing.{position, positions, around, head, polygon, low, size}
+use Rattle.shape.specs.Reading.{row, grids, order-at, length-at, xs-at, ys-at, polygon-asks, read-answer}
+use Rattle.shape.proofs.Scanned.{scanned, no-more}
+use Rattle.shape.proofs.Lengths.{around-length, around-same, head-length, polygon-length}
 use Rattle.exchange.proofs.Words.{word-at, word-past}
 use Rattle.exchange.proofs.Placed.{Begun, begun, position-back, placed-scanned}
 use Rattle.exchange.proofs.Lows.{low-parts, low-around, around-back}
-use Rattle.exchange.proofs.Heads.{Headed}
-use Rattle.exchange.proofs.Polygons.{Ringed, ringed-answer, all-read}
+use Rattle.shape.proofs.Heads.{Headed}
+use Rattle.shape.proofs.Polygons.{Ringed, ringed-answer, all-read}
 
 module _ (order : ℕ) where
   positions-back : (xs ys more s : List ℕ) (at : ℕ) → length xs ≡ length ys → low xs ≡ true → low ys ≡ true → drop at s ≡ positions order xs ys ++ more

@@ -9,15 +9,15 @@ use borrow.Author.Tests.{leb-true, leb-false, eq-eqb}
 use lib.Dec.{leb}
 use lib.ListN.{length}
 use Rattle.laws.proofs.Test.{and-iff}
-use Rattle.exchange.specs.Answers.{Question, must, Answer, gives, refused, asked}
-use Rattle.exchange.specs.Coordinates.{gridAt}
-use Rattle.exchange.specs.Reading.{count, order-at, length-at, last, end, polygon-asks, read-asks, read-answer}
-use Rattle.exchange.specs.Refusals.{Good, GoodHead, Gridded, Closed, PolygonFault, ReadFault, within, left-over, Taken}
-use Rattle.exchange.proofs.Asking.{stops-above, passes, passes-below, ends, passes-all, stops-first, ask-cases, part-cases}
-use Rattle.exchange.proofs.Scanned.{scanned}
-use Rattle.exchange.proofs.Heads.{Headed, passed-one, passed-all, passed-both}
-use Rattle.exchange.proofs.Polygons.{Ringed, polygon-good}
-use Rattle.exchange.proofs.Runs.{nothing-left, all-good}
+use Rattle.shape.specs.Answers.{Question, must, Answer, gives, refused, asked}
+use Rattle.shape.specs.Coordinates.{gridAt}
+use Rattle.shape.specs.Reading.{count, order-at, length-at, last, end, polygon-asks, read-asks, read-answer}
+use Rattle.shape.specs.Refusals.{Good, GoodHead, Gridded, Closed, PolygonFault, ReadFault, within, left-over, Taken}
+use Rattle.shape.proofs.Asking.{stops-above, passes, passes-below, ends, passes-all, stops-first, ask-cases, part-cases}
+use Rattle.shape.proofs.Scanned.{scanned}
+use Rattle.shape.proofs.Heads.{Headed, passed-one, passed-all, passed-both}
+use Rattle.shape.proofs.Polygons.{Ringed, polygon-good}
+use Rattle.shape.proofs.Runs.{nothing-left, all-good}
 use Rattle.exchange.proofs.Refused.{from-answer, from-fault, pass-runs}
 
 -- ---- a polygon at a place that is taken

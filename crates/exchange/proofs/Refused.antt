@@ -8,14 +8,14 @@ use native.Mathlib.Omega.{arith}
 use borrow.Author.Tests.{leb-true, leb-false, eqb-true, eqb-false, eq-eqb, ne-eqb}
 use lib.Dec.{leb, eqb}
 use lib.ListN.{length}
-use Rattle.exchange.specs.Answers.{Question, must, Answer, gives, refused, asked}
-use Rattle.exchange.specs.Bytes.{numberAt}
-use Rattle.exchange.specs.Coordinates.{gridAt, whole}
-use Rattle.exchange.specs.Reading.{coordinate-asks, coordinates, count, size-asks, type-asks, order-at, length-at, last, head-asks, closes, polygon-asks}
-use Rattle.exchange.specs.Refusals.{Good, Typed, OneRing, GoodHead, Gridded, SameX, SameY, PolygonFault, other-shape, no-rings, other-rings, other-size, bad-coordinate, left-open}
-use Rattle.exchange.proofs.Asking.{stops, passes, stops-above, passes-below, passes-all, stops-first, ask-cases, part-cases}
-use Rattle.exchange.proofs.Runs.{nothing-left, BadAt, coordinate-exact, all-good, steps, fine-all, first-bad, bad-first}
-use Rattle.exchange.proofs.Shapes.{not-both, either-fails, typed, typed-passes, type-fault, type-refuses, sized, sized-passes, size-fault, size-refuses}
+use Rattle.shape.specs.Answers.{Question, must, Answer, gives, refused, asked}
+use Rattle.shape.specs.Bytes.{numberAt}
+use Rattle.shape.specs.Coordinates.{gridAt, whole}
+use Rattle.shape.specs.Reading.{coordinate-asks, coordinates, count, size-asks, type-asks, order-at, length-at, last, head-asks, closes, polygon-asks}
+use Rattle.shape.specs.Refusals.{Good, Typed, OneRing, GoodHead, Gridded, SameX, SameY, PolygonFault, other-shape, no-rings, other-rings, other-size, bad-coordinate, left-open}
+use Rattle.shape.proofs.Asking.{stops, passes, stops-above, passes-below, passes-all, stops-first, ask-cases, part-cases}
+use Rattle.shape.proofs.Runs.{nothing-left, BadAt, coordinate-exact, all-good, steps, fine-all, first-bad, bad-first}
+use Rattle.shape.proofs.Shapes.{not-both, either-fails, typed, typed-passes, type-fault, type-refuses, sized, sized-passes, size-fault, size-refuses}
 
 module _ (s : List ℕ) (at room : ℕ) where
   abbrev o : ℕ

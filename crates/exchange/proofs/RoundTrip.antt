@@ -5,14 +5,14 @@ use mathlib.Core.List.{List, _++_}
 use native.Mathlib.Omega.{arith}
 use lib.ListN.{length, take, drop}
 use lib.Seq.{take-at}
-use Rattle.exchange.specs.Answers.{Answer, gives, over}
-use Rattle.exchange.specs.Writing.{polygon, size, writing}
-use Rattle.exchange.specs.Reading.{order-at, xs-at, ys-at, read-answer}
-use Rattle.exchange.specs.Refusals.{Ring, Low}
-use Rattle.exchange.proofs.Asking.{stands}
+use Rattle.shape.specs.Answers.{Answer, gives, over}
+use Rattle.shape.specs.Writing.{polygon, size, writing}
+use Rattle.shape.specs.Reading.{order-at, xs-at, ys-at, read-answer}
+use Rattle.shape.specs.Refusals.{Ring, Low}
+use Rattle.shape.proofs.Asking.{stands}
 use Rattle.exchange.proofs.Words.{Octets}
 use Rattle.exchange.proofs.Lows.{low-exactly}
-use Rattle.exchange.proofs.Lengths.{polygon-length}
+use Rattle.shape.proofs.Lengths.{polygon-length}
 use Rattle.exchange.proofs.WriteExactly.{write-taken-exactly}
 use Rattle.exchange.proofs.ReadAfterWrite.{Writable, read-after-write}
 use Rattle.exchange.proofs.WriteAfterRead.{write-after-read}

@@ -8,8 +8,8 @@ use native.Mathlib.Nat.{div-lt-iff-lt-mul, pow-suc}
 use lib.Dec.{eqb, lit<}
 use lib.ListN.{length, take, drop, getD, length-append, length-drop, length-take, take-append-drop}
 use lib.Seq.{take-at, drop-at, drop-drop}
-use Rattle.exchange.specs.Bytes.{lowFirst, lowBytes, turned, inOrder, numberAt}
-use Rattle.exchange.proofs.Lengths.{turned-length, order-length}
+use Rattle.shape.specs.Bytes.{lowFirst, lowBytes, turned, inOrder, numberAt}
+use Rattle.shape.proofs.Lengths.{turned-length, order-length}
 
 first-low : (k n : ℕ) → n < 256 ^ k → lowFirst (lowBytes k n) ≡ n
 unfolding lowBytes

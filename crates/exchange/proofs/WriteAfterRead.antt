@@ -9,20 +9,20 @@ use borrow.Author.Tests.{leb-true}
 use lib.Dec.{leb, eqb}
 use lib.ListN.{length, drop, getD, drop-of-length-le}
 use lib.Seq.{drop-cons}
-use Rattle.exchange.specs.declared.Coordinate.{Coordinate}
-use Rattle.exchange.specs.declared.Coordinate.the-variants.{Grid, OffGrid, NotFinite}
-use Rattle.exchange.specs.Answers.{Answer, gives, asked, over, must}
-use Rattle.exchange.specs.Coordinates.{encode, coordinateAt, onGrid, gridOf, gridAt}
-use Rattle.exchange.specs.Bytes.{inOrder, numberAt}
-use Rattle.exchange.specs.Writing.{position, positions, around, head, polygon, low, size, writing}
-use Rattle.exchange.specs.Reading.{row, grids, count, order-at, length-at, xs-at, ys-at, polygon-asks, end, read-answer}
-use Rattle.exchange.proofs.Judgements.{encode-judge}
-use Rattle.exchange.proofs.Scanned.{scanned, row-length}
-use Rattle.exchange.proofs.Lengths.{polygon-length}
+use Rattle.shape.specs.declared.Coordinate.{Coordinate}
+use Rattle.shape.specs.declared.Coordinate.the-variants.{Grid, OffGrid, NotFinite}
+use Rattle.shape.specs.Answers.{Answer, gives, asked, over, must}
+use Rattle.shape.specs.Coordinates.{encode, coordinateAt, onGrid, gridOf, gridAt}
+use Rattle.shape.specs.Bytes.{inOrder, numberAt}
+use Rattle.shape.specs.Writing.{position, positions, around, head, polygon, low, size, writing}
+use Rattle.shape.specs.Reading.{row, grids, count, order-at, length-at, xs-at, ys-at, polygon-asks, end, read-answer}
+use Rattle.shape.proofs.Judgements.{encode-judge}
+use Rattle.shape.proofs.Scanned.{scanned, row-length}
+use Rattle.shape.proofs.Lengths.{polygon-length}
 use Rattle.exchange.proofs.Words.{Octets, word-lt, word-of}
 use Rattle.exchange.proofs.Lows.{low-more, low-none, low-front, grids-around}
-use Rattle.exchange.proofs.Heads.{Headed, coordinate-passed, passed-one, passed-all, passed-both}
-use Rattle.exchange.proofs.Polygons.{Ringed, polygon-good}
+use Rattle.shape.proofs.Heads.{Headed, coordinate-passed, passed-one, passed-all, passed-both}
+use Rattle.shape.proofs.Polygons.{Ringed, polygon-good}
 use Rattle.exchange.proofs.ReadAfterWrite.{Writable}
 
 on-the-grid : (c : Coordinate) → onGrid c ≡ true → c ≡ Grid (gridOf c)

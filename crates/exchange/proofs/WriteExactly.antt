@@ -9,15 +9,15 @@ use borrow.Author.Tests.{leb-true, leb-false, le-leb, eqb-true, eq-eqb}
 use lib.Dec.{leb, eqb}
 use lib.ListN.{length}
 use Rattle.laws.proofs.Test.{and-iff, false-iff}
-use Rattle.exchange.specs.declared.Coordinate.{Coordinate}
-use Rattle.exchange.specs.Answers.{Question, must, Answer, gives, refused, asked}
-use Rattle.exchange.specs.Coordinates.{coordinateAt, judge-asks, judgement}
-use Rattle.exchange.specs.Writing.{low, size, write-asks, writing}
-use Rattle.exchange.specs.Refusals.{Ring, Low, WriteFault, no-ring, too-high, too-short, JudgeFault, other-order, cut}
-use Rattle.exchange.proofs.Asking.{stops, stops-above, passes, passes-below, ends, ask-cases}
-use Rattle.exchange.proofs.Heads.{passed-one, passed-all}
+use Rattle.shape.specs.declared.Coordinate.{Coordinate}
+use Rattle.shape.specs.Answers.{Question, must, Answer, gives, refused, asked}
+use Rattle.shape.specs.Coordinates.{coordinateAt, judge-asks, judgement}
+use Rattle.shape.specs.Writing.{low, size, write-asks, writing}
+use Rattle.shape.specs.Refusals.{Ring, Low, WriteFault, no-ring, too-high, too-short, JudgeFault, other-order, cut}
+use Rattle.shape.proofs.Asking.{stops, stops-above, passes, passes-below, ends, ask-cases}
+use Rattle.shape.proofs.Heads.{passed-one, passed-all}
 use Rattle.exchange.proofs.Lows.{low-exactly}
-use Rattle.exchange.proofs.Runs.{nothing-left}
+use Rattle.shape.proofs.Runs.{nothing-left}
 
 -- ---- the writer
 

@@ -5,11 +5,11 @@ use mathlib.Core.Bool.{Bool, true, _&&_}
 use mathlib.Core.List.{List, [], _∷_, _++_}
 use lib.Dec.{eqb, leb}
 use lib.ListN.{length, take, drop, replicate}
-use Rattle.exchange.specs.Answers.{Question, must, Answer, asked}
-use Rattle.exchange.specs.Bytes.{numberAt, inOrder}
-use Rattle.exchange.specs.Coordinates.{whole}
-use Rattle.exchange.specs.Writing.{polygon, low}
-use Rattle.exchange.specs.Reading.{order-at, type-asks, length-at, end, polygon-asks, xs-at, ys-at}
+use Rattle.shape.specs.Answers.{Question, must, Answer, asked}
+use Rattle.shape.specs.Bytes.{numberAt, inOrder}
+use Rattle.shape.specs.Coordinates.{whole}
+use Rattle.shape.specs.Writing.{polygon, low}
+use Rattle.shape.specs.Reading.{order-at, type-asks, length-at, end, polygon-asks, xs-at, ys-at}
 
 -- ---- the file of some rings
 

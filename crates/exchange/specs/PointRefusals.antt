@@ -4,11 +4,11 @@ use mathlib.Core.Path.{_≡_}
 use mathlib.Core.Logic.{_⊎_}
 use mathlib.Core.List.{List}
 use lib.ListN.{length}
-use Rattle.exchange.specs.declared.Coordinate.{Coordinate}
-use Rattle.exchange.specs.Coordinates.{coordinateAt}
-use Rattle.exchange.specs.Reading.{order-at}
+use Rattle.shape.specs.declared.Coordinate.{Coordinate}
+use Rattle.shape.specs.Coordinates.{coordinateAt}
+use Rattle.shape.specs.Reading.{order-at}
 use Rattle.exchange.specs.Points.{point-count, points-end}
-use Rattle.exchange.specs.Refusals.{Good, Bad, Typed, TypeFault, Roomy, SizeFault}
+use Rattle.shape.specs.Refusals.{Good, Bad, Typed, TypeFault, Roomy, SizeFault}
 
 module _ (s : List ℕ) where
   -- a Point that begins at a place

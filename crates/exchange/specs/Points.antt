@@ -5,12 +5,12 @@ use mathlib.Core.Bool.{_||_}
 use mathlib.Core.List.{List, [], _∷_, _++_}
 use lib.Dec.{eqb, leb}
 use lib.ListN.{length}
-use Rattle.exchange.specs.declared.Coordinate.{Coordinate}
-use Rattle.exchange.specs.Answers.{Question, must, Answer, asked}
-use Rattle.exchange.specs.Bytes.{numberAt, inOrder}
-use Rattle.exchange.specs.Coordinates.{coordinateAt, gridAt, whole}
-use Rattle.exchange.specs.Writing.{position}
-use Rattle.exchange.specs.Reading.{run, row, coordinates, size-asks, order-at, type-asks}
+use Rattle.shape.specs.declared.Coordinate.{Coordinate}
+use Rattle.shape.specs.Answers.{Question, must, Answer, asked}
+use Rattle.shape.specs.Bytes.{numberAt, inOrder}
+use Rattle.shape.specs.Coordinates.{coordinateAt, gridAt, whole}
+use Rattle.shape.specs.Writing.{position}
+use Rattle.shape.specs.Reading.{run, row, coordinates, size-asks, order-at, type-asks}
 
 -- ---- the file of some points
 

@@ -6,15 +6,16 @@ ghost use Prim.Native.Nat.{_+_, _*_, _≤_, min};
 ghost use lib.Dec.{T, eqb, leb};
 ghost use lib.ListN.{length, replicate};
 ghost use lib.Seq.{sets};
-ghost use Rattle.exchange.specs.Answers.{asked, gives, refused, districted, scanned-to};
-ghost use Rattle.exchange.specs.Reading.{polygon-asks, length-at, xs-at, ys-at};
+ghost use Rattle.shape.specs.Answers.{asked, gives, refused};
+ghost use Rattle.exchange.specs.Replies.{districted, scanned-to};
+ghost use Rattle.shape.specs.Reading.{polygon-asks, length-at, xs-at, ys-at};
 ghost use Rattle.exchange.specs.Districts.{polygons, district-head, district, total, rings, district-size, parts-asks, parts-end, part-lengths, parts-xs, parts-ys, ring-count, district-head-asks, district-answer};
 use crate::District;
-use crate::Reading;
-use crate::numbers;
-use crate::reader;
-use crate::reader::Fault;
-use crate::writer;
+use shape::Reading;
+use shape::numbers;
+use shape::reader;
+use shape::reader::Fault;
+use shape::writer;
 use sheet::Refusal;
 
 // Where polygons one after another end.

@@ -1,48 +1,27 @@
 // Layer 3, polygon bytes: write a ring, read a ring, judge one coordinate; surveyors' point files; and district files. Document 01, 'Polygon
 // bytes', and document 02, 1/13 and 3/13.
 // No call asks anything of its caller, and a refusal writes nothing.
-mod coordinates;
 mod districts;
-mod numbers;
 mod points;
-mod reader;
-mod writer;
 
+pub use shape::Coordinate;
+pub use shape::Position;
+pub use shape::Reading;
+pub use shape::Written;
+use shape::coordinates;
+use shape::reader;
+use shape::writer;
 use sheet::Refusal;
 ghost use mathlib.Core.Path.{_≡_};
 ghost use Prim.Native.Nat.{min};
 ghost use lib.ListN.{length};
-ghost use Rattle.exchange.specs.Answers.{written, reading, surveyed, districted, judged, over};
-ghost use Rattle.exchange.specs.Coordinates.{judgement};
-ghost use Rattle.exchange.specs.Writing.{polygon, writing};
-ghost use Rattle.exchange.specs.Reading.{read-answer, xs-at, ys-at};
+ghost use Rattle.shape.specs.Answers.{written, reading, over};
+ghost use Rattle.exchange.specs.Replies.{surveyed, districted, judged};
+ghost use Rattle.shape.specs.Coordinates.{judgement};
+ghost use Rattle.shape.specs.Writing.{polygon, writing};
+ghost use Rattle.shape.specs.Reading.{read-answer, xs-at, ys-at};
 ghost use Rattle.exchange.specs.Points.{points-answer, points-xs, points-ys, sent-answer};
 ghost use Rattle.exchange.specs.Districts.{district, district-writing, district-answer, district-lengths, district-xs, district-ys};
-
-// A coordinate as read: a grid number, a finite value off the grid as it was read, or not a finite number.
-pub enum Coordinate {
-    Grid(u16),
-    OffGrid(f64),
-    NotFinite,
-}
-
-// A position as read, before its coordinates are judged.
-pub struct Position {
-    pub x: f64,
-    pub y: f64,
-}
-
-// The bytes written.
-pub enum Written {
-    Bytes(usize),
-    Refused(Refusal),
-}
-
-// The ring's length.
-pub enum Reading {
-    Ring(usize),
-    Refused(Refusal),
-}
 
 // The count of points.
 pub enum Surveyed {

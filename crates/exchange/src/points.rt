@@ -5,14 +5,15 @@ ghost use Prim.Native.Nat.{_+_, _*_, _≤_};
 ghost use lib.Dec.{eqb};
 ghost use lib.ListN.{length};
 ghost use lib.Seq.{sets};
-ghost use Rattle.exchange.specs.Answers.{asked, surveyed, refused, faulty, judged};
-ghost use Rattle.exchange.specs.Reading.{run, row};
+ghost use Rattle.shape.specs.Answers.{asked, refused, faulty};
+ghost use Rattle.exchange.specs.Replies.{surveyed, judged};
+ghost use Rattle.shape.specs.Reading.{run, row};
 ghost use Rattle.exchange.specs.Points.{point-asks, point-x, point-y, point-count, points-head-asks, points-asks, within};
 use crate::Judged;
 use crate::Surveyed;
-use crate::numbers;
-use crate::reader;
-use crate::reader::Fault;
+use shape::numbers;
+use shape::reader;
+use shape::reader::Fault;
 use sheet::Refusal;
 
 pub fn refused(number: u8, place: usize) -> Surveyed

@@ -16,9 +16,9 @@ use Rattle.peel.specs.Peel.{ring, drawn}
 use Rattle.peel.proofs.DrawEnds.{drawn-ends}
 use Rattle.peel.proofs.Reached.{sound}
 use Rattle.peel.proofs.Rings.{ring-length, ring-fits}
-use Rattle.exchange.specs.Answers.{gives, refused, asked}
-use Rattle.exchange.specs.Writing.{low, size, polygon, writing}
-use Rattle.exchange.specs.Reading.{read-answer, xs-at, ys-at}
+use Rattle.shape.specs.Answers.{gives, refused, asked}
+use Rattle.shape.specs.Writing.{low, size, polygon, writing}
+use Rattle.shape.specs.Reading.{read-answer, xs-at, ys-at}
 use Rattle.exchange.proofs.Lows.{low-none, low-more}
 use Rattle.exchange.proofs.ReadAfterWrite.{Writable, read-after-write}
 use Rattle.host.specs.Polygon.{along, writes}

@@ -19,10 +19,10 @@ use Rattle.peel.specs.declared.Drawn.the-variants.{Outline, Refused}
 use Rattle.peel.specs.declared.Tally.{Tally}
 use Rattle.peel.proofs.Outcomes.{draw-given, draw-refused}
 use Rattle.peel.proofs.UsedPart.{outline-of-draw}
-use Rattle.exchange.specs.Answers.{gives, written, over}
-use Rattle.exchange.specs.Writing.{polygon, writing}
-use Rattle.exchange.specs.declared.Written.{Written}
-use Rattle.exchange.specs.declared.Written.the-variants.{Bytes}
+use Rattle.shape.specs.Answers.{gives, written, over}
+use Rattle.shape.specs.Writing.{polygon, writing}
+use Rattle.shape.specs.declared.Written.{Written}
+use Rattle.shape.specs.declared.Written.the-variants.{Bytes}
 use Rattle.exchange.proofs.WriteExactly.{write-taken-exactly}
 use Rattle.host.specs.Polygon as Polygon
 use Rattle.host.specs.Polygon.{code, After, along, writes, draws}

@@ -10,8 +10,8 @@ use Rattle.sheet.specs.Office.{Office}
 use Rattle.sheet.specs.Verdict.{Verdict, accepted, verdict}
 use Rattle.sheet.specs.Verdict as Verdict
 use Rattle.peel.specs.Peel.{ring, drawn}
-use Rattle.exchange.specs.Answers.{Answer, gives, refused, over}
-use Rattle.exchange.specs.Writing.{polygon, writing}
+use Rattle.shape.specs.Answers.{Answer, gives, refused, over}
+use Rattle.shape.specs.Writing.{polygon, writing}
 use Rattle.host.specs.Blocks.{decoded}
 
 -- the bytes of polygon written, or minus the refusal number

@@ -1,7 +1,7 @@
 -- `blocks::show_value` meets its contract: a float below infinity has a pattern.
 use borrow.Author.Needs.{needs}
 use lib.Ieee.{ofBits, nanBits}
-use Rattle.exchange.proofs.Floats.{holds, lt-no-nan}
+use Rattle.shape.proofs.Floats.{holds, lt-no-nan}
 use Rattle.blocks.proofs.show_value.Statement.{statement}
 use Rattle.blocks.proofs.show_value.Tie as tie
 

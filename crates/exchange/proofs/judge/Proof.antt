@@ -1,8 +1,8 @@
 -- `exchange::judge` meets its contract.
 use mathlib.Core.Path.{ap}
 use borrow.Author.Needs.{needs}
-use Rattle.exchange.specs.Answers.{gives}
-use Rattle.exchange.proofs.Asking.{asking}
+use Rattle.shape.specs.Answers.{gives}
+use Rattle.shape.proofs.Asking.{asking}
 use Rattle.exchange.proofs.judge.Statement.{statement}
 use Rattle.exchange.proofs.judge.Tie as tie
 

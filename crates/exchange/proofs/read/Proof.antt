@@ -5,10 +5,10 @@ use native.Mathlib.Omega.{arith}
 use borrow.Author.Needs.{needs}
 use denote.Ref.{now}
 use lib.ListN.{length}
-use Rattle.exchange.specs.Answers.{reading}
-use Rattle.exchange.specs.Reading.{length-at, polygon-asks, xs-at, ys-at}
-use Rattle.exchange.proofs.Asking.{stops-first, stays}
-use Rattle.exchange.proofs.Polygons.{found-answer, found-ring, polygon-good, bytes-left, all-read, filled}
+use Rattle.shape.specs.Answers.{reading}
+use Rattle.shape.specs.Reading.{length-at, polygon-asks, xs-at, ys-at}
+use Rattle.shape.proofs.Asking.{stops-first, stays}
+use Rattle.shape.proofs.Polygons.{found-answer, found-ring, polygon-good, bytes-left, all-read, filled}
 use Rattle.exchange.proofs.read.Statement.{statement}
 use Rattle.exchange.proofs.read.Tie as tie
 

@@ -5,8 +5,8 @@ use native.Mathlib.Omega.{arith}
 use borrow.Author.Needs.{needs}
 use denote.Ref.{now}
 use lib.ListN.{length}
-use Rattle.exchange.specs.Answers.{gives}
-use Rattle.exchange.proofs.Asking.{stops-call, passes-call, stops-above, passes-below, ends, is-below}
+use Rattle.shape.specs.Answers.{gives}
+use Rattle.shape.proofs.Asking.{stops-call, passes-call, stops-above, passes-below, ends, is-below}
 use Rattle.exchange.proofs.PointFiles.{coordinate-there, past-head}
 use Rattle.exchange.proofs.sent.Statement.{statement}
 use Rattle.exchange.proofs.sent.Tie as tie

@@ -6,10 +6,10 @@ use borrow.Author.Needs.{needs}
 use denote.Ref.{now}
 use lib.ListN.{length}
 use Rattle.laws.proofs.Put.{put-front}
-use Rattle.exchange.specs.Writing.{polygon}
-use Rattle.exchange.proofs.Asking.{asking, stays}
-use Rattle.exchange.proofs.Lengths.{polygon-length}
-use Rattle.exchange.proofs.Positions.{ring-is}
+use Rattle.shape.specs.Writing.{polygon}
+use Rattle.shape.proofs.Asking.{asking, stays}
+use Rattle.shape.proofs.Lengths.{polygon-length}
+use Rattle.shape.proofs.Positions.{ring-is}
 use Rattle.exchange.proofs.write.Statement.{statement}
 use Rattle.exchange.proofs.write.Tie as tie
 

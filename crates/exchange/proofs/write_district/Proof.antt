@@ -7,8 +7,8 @@ use denote.Ref.{now}
 use lib.ListN.{length, replicate, length-replicate}
 use Rattle.laws.proofs.Put.{put-front}
 use Rattle.exchange.specs.Districts.{district, district-size}
-use Rattle.exchange.proofs.Asking.{asking, stays}
-use Rattle.exchange.proofs.Floats.{holds}
+use Rattle.shape.proofs.Asking.{asking, stays}
+use Rattle.shape.proofs.Floats.{holds}
 use Rattle.exchange.proofs.DistrictWriting.{Ringed, ringed, few-are}
 use Rattle.exchange.proofs.DistrictLaws.{district-file-length}
 use Rattle.exchange.proofs.write_district.Statement.{statement}

@@ -2,7 +2,7 @@
 use mathlib.Core.Path.{sym, ap, _∙_}
 use borrow.Author.Needs.{needs}
 use denote.Ref.{now}
-use Rattle.exchange.specs.Answers.{districted, scanned-to}
+use Rattle.exchange.specs.Replies.{districted, scanned-to}
 use Rattle.exchange.proofs.DistrictFiles.{head-refused, head-there, part-refused, bytes-left, all-read}
 use Rattle.exchange.proofs.districts.district_at.Statement.{statement}
 use Rattle.exchange.proofs.districts.district_at.Tie as tie

@@ -6,8 +6,8 @@ use borrow.Author.Needs.{needs}
 use denote.Ref.{now}
 use lib.ListN.{length}
 use lib.Seq.{sets}
-use Rattle.exchange.specs.Reading.{grids, order-at, length-at}
-use Rattle.exchange.proofs.Polygons.{polygon-good}
+use Rattle.shape.specs.Reading.{grids, order-at, length-at}
+use Rattle.shape.proofs.Polygons.{polygon-good}
 use Rattle.exchange.proofs.districts.fill_part.Statement.{statement}
 use Rattle.exchange.proofs.districts.fill_part.Tie as tie
 

@@ -8,8 +8,8 @@ use lib.ListN.{set, length-set}
 use lib.Seq.{sets}
 use denote.Ref.{now}
 use Rattle.laws.proofs.Put.{put-next}
-use Rattle.exchange.specs.Bytes.{lowBytes}
-use Rattle.exchange.proofs.Octets.{low-length}
+use Rattle.shape.specs.Bytes.{lowBytes}
+use Rattle.shape.proofs.Octets.{low-length}
 use Rattle.exchange.proofs.districts.put_district_head.Statement.{statement}
 use Rattle.exchange.proofs.districts.put_district_head.Tie as tie
 

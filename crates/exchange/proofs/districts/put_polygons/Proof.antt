@@ -2,13 +2,14 @@
 -- the lists and the output hold what is left.
 use Prim.Native.Nat.{ℕ, _-_}
 use mathlib.Core.Path.{_≡_, refl, sym, ap, _∙_}
+use native.Mathlib.Nat.{le-refl, le-add-right}
 use native.Mathlib.Omega.{arith}
 use denote.Ref.{now}
 use lib.ListN.{length, replicate}
 use lib.Seq.{sets}
 use lib.Ieee.Bits.{is-true}
 use Rattle.exchange.specs.Districts.{polygons, rings}
-use Rattle.exchange.proofs.DistrictWriting.{Holds, turn, left, left-end, polygons-step}
+use Rattle.exchange.proofs.DistrictWriting.{Holds, turn, lent, left, left-end, polygons-step}
 use Rattle.exchange.proofs.districts.put_polygons.Statement.{statement}
 use Rattle.exchange.proofs.districts.put_polygons.Tie as tie
 
@@ -37,10 +38,10 @@ loop-holds c =
     )
 
 mul-n : tie.Need-mul-n Inv-loop μ-loop
-mul-n c = omega arith
+mul-n c = omega (arith, c .loop-test .taken, c .before .before .before .before .before .before .good .1 .1 .0)
 
 shared-slice-read-n : tie.Need-shared-slice-read-n Inv-loop μ-loop
-shared-slice-read-n c = omega arith
+shared-slice-read-n c = c .before .loop-test .taken
 
 cast-n : tie.Need-cast-n Inv-loop μ-loop
 cast-n c = omega (arith, c .shared-slice-known4 .given (c .before .before .loop .i))
@@ -48,74 +49,70 @@ cast-n c = omega (arith, c .shared-slice-known4 .given (c .before .before .loop 
 add-to : tie.Need-add-to Inv-loop μ-loop
 add-to c =
     let h = turn (c .before .loop-test .taken) (c .before .before .loop .inv .0) in
-    omega arith
+    omega (arith, h .within-xs, c .before .before .before .before .before .before .before .good .0)
 
 mul-put-polygon : tie.Need-mul-put-polygon Inv-loop μ-loop
 mul-put-polygon c =
     let h = turn (c .before .loop-test .taken) (c .before .before .loop .inv .0) in
-    omega arith
+    omega (arith, h .within-xs, c .before .before .before .before .before .before .before .good .0)
 
 sub-put-polygon : tie.Need-sub-put-polygon Inv-loop μ-loop
-sub-put-polygon c = omega arith
+sub-put-polygon c = le-add-right _ _
 
 part-put-polygon-start : tie.Need-part-put-polygon-start Inv-loop μ-loop
-part-put-polygon-start c = omega arith
+part-put-polygon-start c = le-add-right _ _
 
 part-put-polygon-end : tie.Need-part-put-polygon-end Inv-loop μ-loop
-part-put-polygon-end c =
-    let h = turn (c .before .loop-test .taken) (c .before .before .loop .inv .0) in
-    omega arith
+part-put-polygon-end c = turn (c .before .loop-test .taken) (c .before .before .loop .inv .0) .within-xs
 
 mul-put-polygon-2 : tie.Need-mul-put-polygon-2 Inv-loop μ-loop
 mul-put-polygon-2 c =
     let h = turn (c .before .before .loop-test .taken) (c .before .before .before .loop .inv .0) in
-    omega arith
+    omega (arith, h .within-ys, c .before .before .before .before .before .before .before .before .good .1 .0)
 
 sub-put-polygon-2 : tie.Need-sub-put-polygon-2 Inv-loop μ-loop
-sub-put-polygon-2 c = omega arith
+sub-put-polygon-2 c = le-add-right _ _
 
 part-put-polygon-start-2 : tie.Need-part-put-polygon-start-2 Inv-loop μ-loop
-part-put-polygon-start-2 c = omega arith
+part-put-polygon-start-2 c = le-add-right _ _
 
 part-put-polygon-end-2 : tie.Need-part-put-polygon-end-2 Inv-loop μ-loop
-part-put-polygon-end-2 c =
-    let h = turn (c .before .before .loop-test .taken) (c .before .before .before .loop .inv .0) in
-    omega arith
+part-put-polygon-end-2 c = turn (c .before .before .loop-test .taken) (c .before .before .before .loop .inv .0) .within-ys
 
 sub-put-polygon-3 : tie.Need-sub-put-polygon-3 Inv-loop μ-loop
-sub-put-polygon-3 c = omega arith
+sub-put-polygon-3 c = omega (arith, c .before .before .before .before .loop .inv .0 .fits, c .before .before .before .before .loop .inv .1)
 
 part-put-polygon-start-3 : tie.Need-part-put-polygon-start-3 Inv-loop μ-loop
-part-put-polygon-start-3 c = omega arith
+part-put-polygon-start-3 c = omega (arith, c .before .before .before .before .loop .inv .0 .fits, c .before .before .before .before .loop .inv .1)
 
 part-put-polygon-end-3 : tie.Need-part-put-polygon-end-3 Inv-loop μ-loop
-part-put-polygon-end-3 c = omega arith
+part-put-polygon-end-3 c = le-refl _
 
 put-polygon-requires : tie.Need-put-polygon-requires Inv-loop μ-loop
 put-polygon-requires c κs =
-    let h = turn (c .before .before .before .before .loop-test .taken) (c .before .before .before .before .before .loop .inv .0) in
-    ((omega arith, omega arith), (omega arith, omega arith))
+    let l = c .before .before .before .before .before .loop in
+    lent (l .out) (l .inv .1) (turn (c .before .before .before .before .loop-test .taken) (l .inv .0))
 
 add-i : tie.Need-add-i Inv-loop μ-loop
-add-i c = omega arith
+add-i c = omega (arith, c .before .before .before .before .before .before .before .loop-test .taken, c .before .before .before .before .before .before .before .before .before .before .before .before .before .good .1 .1 .0)
 
 mul-at : tie.Need-mul-at Inv-loop μ-loop
 mul-at c =
     let h = turn (c .before .before .before .before .before .before .before .loop-test .taken) (c .before .before .before .before .before .before .before .before .loop .inv .0) in
-    omega arith
+    omega (arith, h .most)
 
 add-at : tie.Need-add-at Inv-loop μ-loop
 add-at c =
     let h = turn (c .before .before .before .before .before .before .before .loop-test .taken) (c .before .before .before .before .before .before .before .before .loop .inv .0) in
-    omega arith
+    omega (arith, h .most)
 
 add-at-2 : tie.Need-add-at-2 Inv-loop μ-loop
 add-at-2 c =
     let h = turn (c .before .before .before .before .before .before .before .loop-test .taken) (c .before .before .before .before .before .before .before .before .loop .inv .0) in
-    omega arith
+    omega (arith, h .room-left, c .before .before .before .before .before .before .before .before .before .before .before .before .before .good .1 .1 .1 .0)
 
 loop-less : tie.Need-loop-less Inv-loop μ-loop
-loop-less c = omega arith
+loop-less c = omega (arith, c .before .before .before .before .before .before .before .loop-test .taken)
 
 loop-again : tie.Need-loop-again Inv-loop μ-loop
 loop-again c =

@@ -6,8 +6,8 @@ use native.Mathlib.Omega.{arith}
 use borrow.Author.Needs.{needs}
 use denote.Ref.{now}
 use lib.ListN.{length}
-use Rattle.exchange.specs.Answers.{reading}
-use Rattle.exchange.proofs.Polygons.{polygon-good}
+use Rattle.shape.specs.Answers.{reading}
+use Rattle.shape.proofs.Polygons.{polygon-good}
 use Rattle.exchange.proofs.Parts.{parted, part-stops, part-passes, part-last}
 use Rattle.exchange.proofs.districts.scan_parts.Statement.{statement}
 use Rattle.exchange.proofs.districts.scan_parts.Tie as tie

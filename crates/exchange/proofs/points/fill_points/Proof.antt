@@ -5,10 +5,10 @@ use native.Mathlib.Omega.{arith}
 use denote.Ref.{now}
 use lib.ListN.{length, set}
 use lib.Seq.{sets}
-use Rattle.exchange.specs.Coordinates.{gridAt}
-use Rattle.exchange.specs.Reading.{row, order-at}
+use Rattle.shape.specs.Coordinates.{gridAt}
+use Rattle.shape.specs.Reading.{row, order-at}
 use Rattle.exchange.specs.Points.{point-x, point-y}
-use Rattle.exchange.proofs.Scanned.{fill-step, fill-end}
+use Rattle.shape.proofs.Scanned.{fill-step, fill-end}
 use Rattle.exchange.proofs.points.fill_points.Statement.{statement}
 use Rattle.exchange.proofs.points.fill_points.Tie as tie
 

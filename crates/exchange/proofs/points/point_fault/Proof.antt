@@ -5,10 +5,10 @@ use native.Mathlib.Omega.{arith}
 use borrow.Author.Needs.{needs}
 use denote.Ref.{now}
 use lib.ListN.{length}
-use Rattle.exchange.specs.Answers.{faulty}
-use Rattle.exchange.specs.Reading.{coordinates, order-at, type-asks}
-use Rattle.exchange.proofs.Asking.{passes-all, stops-first}
-use Rattle.exchange.proofs.Shapes.{typed}
+use Rattle.shape.specs.Answers.{faulty}
+use Rattle.shape.specs.Reading.{coordinates, order-at, type-asks}
+use Rattle.shape.proofs.Asking.{passes-all, stops-first}
+use Rattle.shape.proofs.Shapes.{typed}
 use Rattle.exchange.proofs.points.point_fault.Statement.{statement}
 use Rattle.exchange.proofs.points.point_fault.Tie as tie
 

@@ -5,7 +5,7 @@ use denote.Ref.{now}
 use lib.ListN.{length, take, drop, replicate}
 use lib.Seq.{length-take-le}
 use mir.Facts.{toZ-ofZ}
-use Rattle.exchange.specs.Answers.{written}
+use Rattle.shape.specs.Answers.{written}
 use Rattle.host.specs.Polygon.{code}
 use Rattle.host.proofs.Rounds.{along-length, along-front, wrote-answer, wrote-out, wrote-small}
 use borrow.Author.Needs.{needs}
