@@ -1,6 +1,7 @@
 -- `exchange::districts::fill_parts` meets its contract. The loop's invariant: what is left to fill makes the lists what the whole makes of them.
 use Prim.Native.Nat.{ℕ, _+_, _-_, _≤_, min}
 use mathlib.Core.Path.{_≡_, refl, sym, ap, _∙_, subst}
+use native.Mathlib.Nat.{le-refl, sub-add-eq}
 use native.Mathlib.Omega.{arith}
 use borrow.Rule.Slice.PartMut.{midOf, putMid, mid-len}
 use denote.Ref.{now}
@@ -45,28 +46,40 @@ loop-holds c =
     )
 
 mul-fill-part : tie.Need-mul-fill-part Inv-loop μ-loop
-mul-fill-part c = omega arith
+mul-fill-part c =
+    let l = c .before .loop in
+    omega (arith, l .inv .1, c .before .before .before .before .before .before .good .1 .1 .1 .0)
 
 sub-fill-part : tie.Need-sub-fill-part Inv-loop μ-loop
-sub-fill-part c = omega arith
+sub-fill-part c =
+    let l = c .before .loop in
+    omega (arith, l .inv .1, l .inv .2)
 
 part-fill-part-start : tie.Need-part-fill-part-start Inv-loop μ-loop
-part-fill-part-start c = omega arith
+part-fill-part-start c =
+    let l = c .before .loop in
+    omega (arith, l .inv .1, l .inv .2)
 
 part-fill-part-end : tie.Need-part-fill-part-end Inv-loop μ-loop
-part-fill-part-end c = omega arith
+part-fill-part-end c = le-refl _
 
 mul-fill-part-2 : tie.Need-mul-fill-part-2 Inv-loop μ-loop
-mul-fill-part-2 c = omega arith
+mul-fill-part-2 c =
+    let l = c .before .before .loop in
+    omega (arith, l .inv .1, c .before .before .before .before .before .before .before .good .1 .1 .1 .1 .0)
 
 sub-fill-part-2 : tie.Need-sub-fill-part-2 Inv-loop μ-loop
-sub-fill-part-2 c = omega arith
+sub-fill-part-2 c =
+    let l = c .before .before .loop in
+    omega (arith, l .inv .1, l .inv .3)
 
 part-fill-part-start-2 : tie.Need-part-fill-part-start-2 Inv-loop μ-loop
-part-fill-part-start-2 c = omega arith
+part-fill-part-start-2 c =
+    let l = c .before .before .loop in
+    omega (arith, l .inv .1, l .inv .3)
 
 part-fill-part-end-2 : tie.Need-part-fill-part-end-2 Inv-loop μ-loop
-part-fill-part-end-2 c = omega arith
+part-fill-part-end-2 c = le-refl _
 
 fill-part-requires : tie.Need-fill-part-requires Inv-loop μ-loop
 fill-part-requires c κs =
@@ -75,7 +88,7 @@ fill-part-requires c κs =
     let s = now (a .s) in
     let m = min (length (now (a .xs))) (length (now (a .ys))) in
     let e : m - l .from ≡ min (length (midOf (l .from) (length (l .xs) - l .from) (l .xs))) (length (midOf (l .from) (length (l .ys) - l .from) (l .ys))) =
-    omega (arith, mid-len (l .from) (length (l .xs)) (l .xs) (omega arith), mid-len (l .from) (length (l .ys)) (l .ys) (omega arith)) in
+    omega (arith, mid-len (l .from) (length (l .xs)) (l .xs) (le-refl _), mid-len (l .from) (length (l .ys)) (l .ys) (le-refl _), l .inv .2, l .inv .3) in
     part-fine s (a .k) (l .i) (l .place) (m - l .from) (c .before .before .loop-test .taken) (l .inv .5) ∙ ap (λ (room : ℕ). asked (polygon-asks s (l .place) room) (length-at s (l .place))) e
 
 cast-lengths : tie.Need-cast-lengths Inv-loop μ-loop
@@ -89,13 +102,13 @@ cast-lengths c =
     omega (arith, r .head .most)
 
 mul-lengths : tie.Need-mul-lengths Inv-loop μ-loop
-mul-lengths c = omega arith
+mul-lengths c = omega (arith, c .before .before .before .before .before .before .before .loop-test .taken, c .before .before .before .before .before .before .before .before .before .before .before .before .before .pre .1, c .before .before .before .before .before .before .before .before .before .before .before .before .before .good .1 .1 .1 .1 .1 .0)
 
 slice-write-lengths : tie.Need-slice-write-lengths Inv-loop μ-loop
-slice-write-lengths c = omega arith
+slice-write-lengths c = omega (arith, c .before .before .before .before .before .before .before .loop-test .taken, c .before .before .before .before .before .before .before .before .before .before .before .before .before .pre .1, c .before .before .before .before .before .before .before .before .loop .inv .4)
 
 add-i : tie.Need-add-i Inv-loop μ-loop
-add-i c = omega arith
+add-i c = omega (arith, c .before .before .before .before .before .before .before .loop-test .taken, c .before .before .before .before .before .before .before .before .before .before .before .before .before .fits .k)
 
 mul-place : tie.Need-mul-place Inv-loop μ-loop
 mul-place c =
@@ -125,7 +138,7 @@ add-place-2 c =
     let m = min (length (now (a .xs))) (length (now (a .ys))) in
     let q = c .before .before .before .before .fill-part in
     let r = part-ring s (a .k) (l .i) (l .place) (m - l .from) (c .before .before .before .before .before .before .before .loop-test .taken) (l .inv .5) (q .result) (q .ensures .0) in
-    omega (arith, r .whole)
+    omega (arith, r .whole, c .before .before .before .before .before .before .before .before .before .before .before .before .before .good .0)
 
 add-from : tie.Need-add-from Inv-loop μ-loop
 add-from c =
@@ -135,10 +148,10 @@ add-from c =
     let m = min (length (now (a .xs))) (length (now (a .ys))) in
     let q = c .before .before .before .before .fill-part in
     let r = part-ring s (a .k) (l .i) (l .place) (m - l .from) (c .before .before .before .before .before .before .before .loop-test .taken) (l .inv .5) (q .result) (q .ensures .0) in
-    omega (arith, r .head .fits)
+    omega (arith, r .head .fits, l .inv .1, c .before .before .before .before .before .before .before .before .before .before .before .before .before .good .1 .1 .1 .0)
 
 loop-less : tie.Need-loop-less Inv-loop μ-loop
-loop-less c = omega arith
+loop-less c = omega (arith, c .before .before .before .before .before .before .before .loop-test .taken)
 
 loop-again : tie.Need-loop-again Inv-loop μ-loop
 loop-again c =
@@ -148,12 +161,12 @@ loop-again c =
     let m = min (length (now (a .xs))) (length (now (a .ys))) in
     let q = c .before .before .before .before .fill-part in
     let r = part-ring s (a .k) (l .i) (l .place) (m - l .from) (c .before .before .before .before .before .before .before .loop-test .taken) (l .inv .5) (q .result) (q .ensures .0) in
-    let fits : l .from + q .result ≤ m = omega (arith, r .head .fits) in
+    let fits : l .from + q .result ≤ m = omega (arith, r .head .fits, l .inv .1) in
     let t = c .before .before .before .before .before .before .before .loop-test .taken in
-    let x = ap (putMid (l .from) (length (l .xs) - l .from) (l .xs)) (q .ensures .1 .0) ∙ put-rest (l .from) (l .xs) (xs-at s (l .place)) (omega arith) in
-    let y = ap (putMid (l .from) (length (l .ys) - l .from) (l .ys)) (q .ensures .1 .1) ∙ put-rest (l .from) (l .ys) (ys-at s (l .place)) (omega arith) in
-    let less : m - l .from - q .result ≡ m - (l .from + q .result) = omega arith in (
-      omega arith,
+    let x = ap (putMid (l .from) (length (l .xs) - l .from) (l .xs)) (q .ensures .1 .0) ∙ put-rest (l .from) (l .xs) (xs-at s (l .place)) (omega (arith, l .inv .1, l .inv .2)) in
+    let y = ap (putMid (l .from) (length (l .ys) - l .from) (l .ys)) (q .ensures .1 .1) ∙ put-rest (l .from) (l .ys) (ys-at s (l .place)) (omega (arith, l .inv .1, l .inv .3)) in
+    let less : m - l .from - q .result ≡ m - (l .from + q .result) = sym (sub-add-eq m (l .from) (q .result)) in (
+      omega (arith, t),
       fits,
       ap length x ∙ length-sets (l .xs) (l .from) (xs-at s (l .place)) ∙ l .inv .2,
       ap length y ∙ length-sets (l .ys) (l .from) (ys-at s (l .place)) ∙ l .inv .3,

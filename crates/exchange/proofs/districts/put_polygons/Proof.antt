@@ -122,8 +122,8 @@ loop-again c =
     let q = c .before .before .put-polygon in
     let h = turn t (l .inv .0) in (
       h .after,
-      omega arith,
-      polygons-step (now (a .lengths)) (now (a .xs)) (now (a .ys)) (l .i) (l .from) (l .out) (q .last .1 .1 .0) (l .at) _ refl t (h .within-xs) (h .within-ys) (omega arith) (q .ensures) ∙ l .inv .2,
+      c .before .out .given .1 ∙ l .inv .1,
+      polygons-step (now (a .lengths)) (now (a .xs)) (now (a .ys)) (l .i) (l .from) (l .out) (q .last .1 .1 .0) (l .at) _ refl t (h .within-xs) (h .within-ys) (omega (arith, h .room-left, l .inv .1)) (q .ensures) ∙ l .inv .2,
     )
 
 same-length : tie.Need-same-length Inv-loop μ-loop
