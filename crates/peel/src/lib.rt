@@ -1,56 +1,18 @@
 // Layer 2, peeling: draw, outline and list. Document 01, 'Peeling'.
-mod answers;
-mod best;
 mod drawing;
 mod listing;
-mod ring;
 mod room;
-mod sides;
-mod start;
-mod step;
 
 use drawing::draw_accepted;
 use listing::list_accepted;
+pub use rim::Tally;
 use room::draw_room;
 use room::list_room;
 use sheet::Checked;
 use sheet::Refusal;
 use sheet::check_lent;
 ghost use mathlib.Core.Path.{_≡_};
-ghost use Prim.Native.Nat.{_+_, _<_};
 ghost use Rattle.peel.specs.Answer.{used, DrawPromise, ListPromise};
-
-// The running tally: triangles peeled, twice the area of those kept, and the ring's length.
-pub struct Tally {
-    pub peeled: u32,
-    pub area: u32,
-    pub ring: usize,
-}
-
-impl Tally {
-    // Nothing is peeled yet.
-    fn fresh(area: u32, ring: usize) -> Tally
-        ensures { λ r. ⌜ (r .peeled ≡ 0) × (r .area ≡ area) × (r .ring ≡ ring) ⌝ }
-    {
-        Tally {
-            peeled: 0,
-            area: area,
-            ring: ring,
-        }
-    }
-
-    // After one peel, with the new area and ring length.
-    fn after_peel(self, area: u32, ring: usize) -> Tally
-        requires { ⌜ self .peeled < 2043 ⌝ }
-        ensures { λ r. ⌜ (r .peeled ≡ self .peeled + 1) × (r .area ≡ area) × (r .ring ≡ ring) ⌝ }
-    {
-        Tally {
-            peeled: self.peeled + 1,
-            area: area,
-            ring: ring,
-        }
-    }
-}
 
 // What a draw answers.
 pub enum Drawn {

@@ -1,7 +1,7 @@
 -- `peel::listing::list_accepted` meets its contract. Assumes nothing.
 use mathlib.Core.Path.{_∙_}
 use borrow.Author.Needs.{needs}
-use Rattle.peel.proofs.Cornered.{corners-low, corners-single}
+use Rattle.rim.proofs.Cornered.{corners-low, corners-single}
 use Rattle.peel.proofs.Outlining.{outlined, all-drawn, all-entries, enough, written}
 use Rattle.peel.proofs.listing.list_accepted.Statement.{statement}
 use Rattle.peel.proofs.listing.list_accepted.Tie as tie
