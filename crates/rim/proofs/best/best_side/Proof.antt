@@ -1,4 +1,4 @@
--- `peel::best::best_side` meets its contract: what is left of the search gives the whole's answer. Assumes nothing.
+-- `rim::best::best_side` meets its contract: what is left of the search gives the whole's answer. Assumes nothing.
 use Prim.Native.Nat.{_-_}
 use borrow.Author.Needs.{needs}
 use lib.ListN.{length}

@@ -1,4 +1,4 @@
--- `peel::best::better` meets its contract. Assumes nothing.
+-- `rim::best::better` meets its contract. Assumes nothing.
 use native.Mathlib.Omega.{arith}
 use borrow.Author.Needs.{needs}
 use borrow.Author.Tests.{not-true, not-false}

@@ -1,4 +1,4 @@
--- `peel::best::ends_of` meets its contract. Assumes nothing.
+-- `rim::best::ends_of` meets its contract. Assumes nothing.
 use borrow.Author.Needs.{needs}
 use Rattle.rim.proofs.InOrder.{tail-there, head-there, ends-turned, ends-kept}
 use Rattle.rim.proofs.best.ends_of.Statement.{statement}

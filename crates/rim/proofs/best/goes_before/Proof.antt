@@ -1,4 +1,4 @@
--- `peel::best::goes_before` meets its contract. Assumes nothing.
+-- `rim::best::goes_before` meets its contract. Assumes nothing.
 use borrow.Author.Needs.{needs}
 use Rattle.sheet.specs.Office.{office}
 use Rattle.rim.proofs.InOrder.{earlier-longer, earlier-first, later-first, by-seconds}

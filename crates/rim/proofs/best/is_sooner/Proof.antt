@@ -1,4 +1,4 @@
--- `peel::best::is_sooner` meets its contract. Assumes nothing.
+-- `rim::best::is_sooner` meets its contract. Assumes nothing.
 use mathlib.Core.Path.{refl}
 use borrow.Author.Needs.{needs}
 use Rattle.rim.proofs.best.is_sooner.Statement.{statement}

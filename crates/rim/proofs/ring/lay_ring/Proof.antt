@@ -1,4 +1,4 @@
--- `peel::ring::lay_ring` meets its contract. Assumes nothing.
+-- `rim::ring::lay_ring` meets its contract. Assumes nothing.
 use native.Mathlib.Omega.{arith}
 use borrow.Author.Needs.{needs}
 use lib.Dec.{eqb}

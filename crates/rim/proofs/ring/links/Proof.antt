@@ -1,4 +1,4 @@
--- `peel::ring::links` meets its contract: one more side at a time. Assumes nothing.
+-- `rim::ring::links` meets its contract: one more side at a time. Assumes nothing.
 use mathlib.Core.Path.{_≡_}
 use Prim.Native.Nat.{ℕ, _-_, _≤_}
 use native.Mathlib.Omega.{arith}

@@ -1,4 +1,4 @@
--- `peel::ring::lowest_marked` meets its contract: a search from 0 up. Assumes nothing.
+-- `rim::ring::lowest_marked` meets its contract: a search from 0 up. Assumes nothing.
 use Prim.Native.Nat.{_-_}
 use lib.Dec.{eqb}
 use lib.ListN.{getD}

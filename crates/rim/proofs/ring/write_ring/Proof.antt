@@ -1,4 +1,4 @@
--- `peel::ring::write_ring` meets its contract: what is left of the walk gives the whole. Assumes nothing.
+-- `rim::ring::write_ring` meets its contract: what is left of the walk gives the whole. Assumes nothing.
 use mathlib.Core.Path.{refl}
 use Prim.Native.Nat.{_-_}
 use native.Mathlib.Omega.{arith}

@@ -1,4 +1,4 @@
--- `peel::sides::is_rim` meets its contract. Assumes nothing.
+-- `rim::sides::is_rim` meets its contract. Assumes nothing.
 use native.Mathlib.Omega.{arith}
 use borrow.Author.Needs.{needs}
 use Rattle.rim.proofs.Mated.{rim-there, rim-absent}

@@ -1,4 +1,4 @@
--- `peel::start::area_all` meets its contract. Assumes nothing.
+-- `rim::start::area_all` meets its contract. Assumes nothing.
 use Prim.Native.Nat.{_-_, _/_}
 use native.Mathlib.Omega.{arith}
 use lib.ListN.{length}

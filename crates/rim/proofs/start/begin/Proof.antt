@@ -1,4 +1,4 @@
--- `peel::start::begin` meets its contract. Assumes nothing.
+-- `rim::start::begin` meets its contract. Assumes nothing.
 use mathlib.Core.Path.{_∙_}
 use Prim.Native.Nat.{_/_}
 use native.Mathlib.Omega.{arith}

@@ -1,4 +1,4 @@
--- `peel::start::fill` meets its contract. Assumes nothing.
+-- `rim::start::fill` meets its contract. Assumes nothing.
 use mathlib.Core.Path.{_≡_, refl, ap, _∙_}
 use mathlib.Core.List.{_++_}
 use Prim.Native.Nat.{_-_, _≤_}

@@ -1,4 +1,4 @@
--- `peel::start::mark_rim` meets its contract. Assumes nothing.
+-- `rim::start::mark_rim` meets its contract. Assumes nothing.
 use mathlib.Core.Path.{_∙_}
 use Prim.Native.Nat.{_-_}
 use native.Mathlib.Omega.{arith}

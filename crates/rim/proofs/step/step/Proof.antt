@@ -1,4 +1,4 @@
--- `peel::step::step` meets its contract. Assumes nothing.
+-- `rim::step::step` meets its contract. Assumes nothing.
 use Prim.Native.Nat.{ℕ, _/_, _<_, _≤_}
 use native.Mathlib.Omega.{arith}
 use borrow.Author.Needs.{needs}
