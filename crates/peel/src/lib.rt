@@ -39,7 +39,7 @@ pub fn draw(
 ) -> Drawn
     ensures { λ r. ⌜ DrawPromise (now (xs .entry)) (now (ys .entry)) (now (corners .entry)) limit (now (kept .entry)) (now (rim .entry)) (now (ring .entry)) r (now (kept .exit)) (now (rim .exit)) (now (ring .exit)) ⌝ }
 {
-    let room = draw_room(xs, corners, kept, rim, ring);
+    let room = draw_room(xs.len(), corners.len(), kept.len(), rim.len(), ring.len());
     let checked = check_lent(xs, ys, corners, room);
     match checked {
         Checked::Refused(refusal) => {
@@ -78,7 +78,16 @@ pub fn list(
 ) -> Listed
     ensures { λ r. ⌜ ListPromise (now (xs .entry)) (now (ys .entry)) (now (corners .entry)) (now (kept .entry)) (now (rim .entry)) (now (ring .entry)) (now (least .entry)) (now (peeled .entry)) (now (area .entry)) r (now (kept .exit)) (now (rim .exit)) (now (ring .exit)) (now (least .exit)) (now (peeled .exit)) (now (area .exit)) ⌝ }
 {
-    let room = list_room(xs, corners, kept, rim, ring, least, peeled, area);
+    let room = list_room(
+        xs.len(),
+        corners.len(),
+        kept.len(),
+        rim.len(),
+        ring.len(),
+        least.len(),
+        peeled.len(),
+        area.len(),
+    );
     let checked = check_lent(xs, ys, corners, room);
     match checked {
         Checked::Refused(refusal) => {
