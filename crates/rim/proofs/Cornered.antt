@@ -5,9 +5,9 @@ use Prim.Native.Nat.{ℕ, _+_, _*_, _/_, _<_}
 use native.Mathlib.Omega.{arith}
 use lib.ListN.{length, getD}
 use lib.IntN.{natAbs}
-use Rattle.sheet.specs.Acceptable.{Acceptable, Single}
+use Rattle.sheet.specs.Acceptable.{Acceptable}
 use Rattle.sheet.specs.Plane.{Small, spot, turn, squared}
-use Rattle.sheet.specs.Office.{office, bare, next, area}
+use Rattle.sheet.specs.Office.{office, next, area}
 use Rattle.sheet.specs.Code.{Numbered}
 use Rattle.sheet.proofs.Side.{next-below}
 use Rattle.rim.specs.Peel.{long}
@@ -50,6 +50,3 @@ module _ (xs ys corners : List ℕ) where
 -- so they fit the tables by points
 pub corners-low : {xs ys corners : List ℕ} → Acceptable (office xs ys corners) → Numbered corners 1024
 corners-low a s l = omega (arith, a .numbered s l, a .points-bound .1)
-
-pub corners-single : {xs ys corners : List ℕ} → Acceptable (office xs ys corners) → Single (bare corners)
-corners-single a = a .single
