@@ -1,4 +1,5 @@
 -- `peel::drawing::draw_accepted` meets its contract. Assumes nothing.
+use mathlib.Core.Path.{_∙_}
 use borrow.Author.Needs.{needs}
 use Rattle.sheet.specs.Office.{office}
 use Rattle.rim.proofs.Cornered.{corners-low}
@@ -18,10 +19,12 @@ draw-accepted-spec =
     tie.close
     (tie.spec
     (λ c κs. search (corners-low, needs))
-    (λ c κs. search needs)
-    (λ c κs. search needs)
+    (λ c κs.
+    let s = c .before .before .before .before .before .before .before .before .before .before in
+    ((s .pre .0, s .pre .1, s .pre .2, s .pre .3), c .before .before .before .mates .ensures))
+    (λ c κs. c .before .before .before .before .before .before .before .begin .ensures .0 .0)
     (λ c κs. (c .before .before .before .before .before .before .before .before .peel-all .ensures .state, c .before .before .before .before .before .before .before .before .before .before .before .before .before .before .before .before .before .before .before .before .before .before .before .before .before .before .before .pre .4))
-    (λ c. search needs)
-    (λ c. search needs)
-    (λ c. search needs)
+    (λ c. c .before .before .before .before .before .before .before .before .before .before .before .peel-all .kept .1 .1 .1 .1 .0 ∙ c .before .before .before .before .before .before .before .before .before .before .before .before .before .before .before .before .before .before .before .begin .kept .1 .1 .1 .1 .1 .0)
+    (λ c. c .before .before .before .before .before .before .before .before .before .before .before .peel-all .kept .1 .1 .1 .1 .1 .0 ∙ c .before .before .before .before .before .before .before .before .before .before .before .before .before .before .before .before .before .before .before .begin .kept .1 .1 .1 .1 .1 .1 .0)
+    (λ c. c .before .before .lay-ring .kept .1 .1 .1 .1 .1 .1 .1 .0)
     returns)
