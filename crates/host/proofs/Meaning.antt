@@ -12,10 +12,10 @@ use lib.ListN.{length, getD, List·getD-eq-default}
 use Rattle.sheet.specs.Office.{Office, points, rims}
 use Rattle.sheet.specs.Acceptable.{Acceptable}
 use Rattle.sheet.proofs.Hull.{hull-three}
-use Rattle.peel.specs.Peel.{ring, drawn}
+use Rattle.rim.specs.Peel.{ring, drawn}
 use Rattle.peel.proofs.DrawEnds.{drawn-ends}
-use Rattle.peel.proofs.Reached.{sound}
-use Rattle.peel.proofs.Rings.{ring-length, ring-fits}
+use Rattle.rim.proofs.Reached.{sound}
+use Rattle.rim.proofs.Rings.{ring-length, ring-fits}
 use Rattle.shape.specs.Answers.{gives, refused, asked}
 use Rattle.shape.specs.Writing.{low, size, polygon, writing}
 use Rattle.shape.specs.Reading.{read-answer, xs-at, ys-at}

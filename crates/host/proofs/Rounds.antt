@@ -16,7 +16,7 @@ use Rattle.sheet.specs.declared.Refusal.{Refusal}
 use Rattle.peel.specs.Answer.{tally, refusal, draw-answer, drawing, draw-room, after-draw, used}
 use Rattle.peel.specs.declared.Drawn.{Drawn}
 use Rattle.peel.specs.declared.Drawn.the-variants.{Outline, Refused}
-use Rattle.peel.specs.declared.Tally.{Tally}
+use Rattle.rim.specs.declared.Tally.{Tally}
 use Rattle.peel.proofs.Outcomes.{draw-given, draw-refused}
 use Rattle.peel.proofs.UsedPart.{outline-of-draw}
 use Rattle.shape.specs.Answers.{gives, written, over}

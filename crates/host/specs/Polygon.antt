@@ -9,7 +9,7 @@ use lib.ListN.{length, getD}
 use Rattle.sheet.specs.Office.{Office}
 use Rattle.sheet.specs.Verdict.{Verdict, accepted, verdict}
 use Rattle.sheet.specs.Verdict as Verdict
-use Rattle.peel.specs.Peel.{ring, drawn}
+use Rattle.rim.specs.Peel.{ring, drawn}
 use Rattle.shape.specs.Answers.{Answer, gives, refused, over}
 use Rattle.shape.specs.Writing.{polygon, writing}
 use Rattle.host.specs.Blocks.{decoded}

@@ -7,11 +7,11 @@ use native.Mathlib.Omega.{arith}
 use borrow.Author.Tests.{lt-ltb, le-ltb}
 use Rattle.sheet.specs.Office.{Office, sides, triangles}
 use Rattle.sheet.specs.Acceptable.{Acceptable}
-use Rattle.peel.specs.Peel.{long, best, peel, turned, peels, whole, drawn}
-use Rattle.peel.specs.Reached.{Reached}
-use Rattle.peel.proofs.Reached.{sound}
-use Rattle.peel.proofs.Rings.{some-kept}
-use Rattle.peel.proofs.TopSide.{Top, best-top}
+use Rattle.rim.specs.Peel.{long, best, peel, turned, peels, whole, drawn}
+use Rattle.rim.specs.Reached.{Reached}
+use Rattle.rim.proofs.Reached.{sound}
+use Rattle.rim.proofs.Rings.{some-kept}
+use Rattle.rim.proofs.TopSide.{Top, best-top}
 use Rattle.peel.proofs.DrawEnds.{Done}
 
 -- after n peels, and with `left` more at most

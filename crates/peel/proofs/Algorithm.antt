@@ -12,12 +12,12 @@ use Rattle.laws.proofs.Test.{and-iff, not-iff, false-iff, ltb-iff}
 use Rattle.laws.proofs.Sorted.{In, Sorted, front, length-insert, in-insert, insert-in, length-sort, in-sort, sort-in}
 use Rattle.sheet.specs.Office.{Office, sides, triangles, apex, next, last}
 use Rattle.sheet.specs.Acceptable.{Acceptable}
-use Rattle.peel.specs.Peel.{rim, on-rim, long, before, peel, whole, drawn, ring}
+use Rattle.rim.specs.Peel.{rim, on-rim, long, before, peel, whole, drawn, ring}
 use Rattle.peel.specs.Algorithm.{State, boundary, ends, start, reveal, regular, dug, turn, turns, final, shape}
-use Rattle.peel.proofs.Marks.{removable-iff, rim-iff}
-use Rattle.peel.proofs.OnePeel.{outward, inward}
-use Rattle.peel.proofs.RimPoints.{on-rim-after}
-use Rattle.peel.specs.Reached.{begun}
+use Rattle.rim.proofs.Marks.{removable-iff, rim-iff}
+use Rattle.rim.proofs.OnePeel.{outward, inward}
+use Rattle.rim.proofs.RimPoints.{on-rim-after}
+use Rattle.rim.specs.Reached.{begun}
 use Rattle.peel.proofs.Waiting.{Waiting, none-waits, forgets, first-is-best, can, replaces}
 use Rattle.peel.proofs.Ahead.{Ahead, all-ahead, peel-ahead, none-ahead}
 use Rattle.peel.proofs.Boundary.{insert-ordered, sort-ordered, ends-on-rim, reveal-is, boundary-length, in-boundary, boundary-in}

@@ -14,12 +14,12 @@ use Rattle.sheet.specs.Answer.{answer}
 use Rattle.sheet.specs.declared.Checked.{Checked}
 use Rattle.sheet.specs.declared.Checked.the-variants.{Accepted, Refused}
 use Rattle.sheet.specs.declared.Refusal.{Refusal}
-use Rattle.peel.specs.Peel.{drawn, peeled as peeled-of, doubled, rims as rims-of}
+use Rattle.rim.specs.Peel.{drawn, peeled as peeled-of, doubled, rims as rims-of}
 use Rattle.peel.specs.List.{entries}
 use Rattle.peel.specs.Answer.{tally, count, draw-answer, draw-room, list-room, drawing, listing, DrawPromise, ListPromise}
 use Rattle.peel.specs.declared.Drawn.the-variants.{Outline, Refused as Undrawn}
 use Rattle.peel.specs.declared.Listed.the-variants.{Entries, Refused as Unlisted}
-use Rattle.peel.specs.declared.Tally.{Tally}
+use Rattle.rim.specs.declared.Tally.{Tally}
 use Rattle.peel.specs.Code.{Lent, Outlined, Written}
 use Rattle.sheet.proofs.Accepted.{accepted-lent}
 use Rattle.peel.proofs.Outcomes.{draw-given, draw-refused, list-given, list-refused}

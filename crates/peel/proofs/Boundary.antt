@@ -16,9 +16,9 @@ use Rattle.laws.proofs.More.{any-more}
 use Rattle.laws.proofs.Sorted.{In, Sorted, insert-sorted, sort-sorted}
 use Rattle.sheet.specs.Office.{Office, sides, tail, head, reverse}
 use Rattle.sheet.specs.Acceptable.{Reverse, Acceptable}
-use Rattle.peel.specs.Peel.{rim, on-rim, before, whole}
+use Rattle.rim.specs.Peel.{rim, on-rim, before, whole}
 use Rattle.peel.specs.Algorithm.{boundary, ends, reveal}
-use Rattle.peel.proofs.TopSide.{before-iff, before-trans, before-never}
+use Rattle.rim.proofs.TopSide.{before-iff, before-trans, before-never}
 
 module _ (o : Office) where
   follows : (s r q : ℕ) → before o s r ≡ true → before o r q ≡ true → before o s q ≡ true

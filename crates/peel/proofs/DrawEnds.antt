@@ -11,11 +11,11 @@ use lib.Dec.{ltb}
 use borrow.Author.Tests.{ltb-false}
 use Rattle.sheet.specs.Office.{Office, sides, triangles}
 use Rattle.sheet.specs.Acceptable.{Acceptable}
-use Rattle.peel.specs.Peel.{removable, long, best, peel, turned, peels, whole, drawn}
-use Rattle.peel.specs.Reached.{Reached, begun, more}
-use Rattle.peel.proofs.Reached.{sound}
-use Rattle.peel.proofs.Rings.{some-kept}
-use Rattle.peel.proofs.TopSide.{Before, Top, best-top}
+use Rattle.rim.specs.Peel.{removable, long, best, peel, turned, peels, whole, drawn}
+use Rattle.rim.specs.Reached.{Reached, begun, more}
+use Rattle.rim.proofs.Reached.{sound}
+use Rattle.rim.proofs.Rings.{some-kept}
+use Rattle.rim.proofs.TopSide.{Before, Top, best-top}
 
 -- no removable side is longer than the limit
 abbrev pub Done : Office → ℕ → List ℕ → Type 0

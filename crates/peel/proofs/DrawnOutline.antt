@@ -9,12 +9,12 @@ use lib.ListN.{length, getD}
 use borrow.Author.Tests.{ltb-true}
 use Rattle.sheet.specs.Office.{Office, points, sides, triangles, tail, head, rims as hull-sides}
 use Rattle.sheet.specs.Acceptable.{Acceptable}
-use Rattle.peel.specs.Peel.{rim, on-rim, removable, long, best, peel, turned, peels, drawn, ring, peeled}
-use Rattle.peel.specs.Reached.{Reached, begun, more, Stripped, none-yet, one-more}
-use Rattle.peel.proofs.Marks.{Way, Held}
-use Rattle.peel.proofs.Reached.{Sound, sound}
-use Rattle.peel.proofs.Rings.{outlined, ring-length}
-use Rattle.peel.proofs.TopSide.{Top, best-top}
+use Rattle.rim.specs.Peel.{rim, on-rim, removable, long, best, peel, turned, peels, drawn, ring, peeled}
+use Rattle.rim.specs.Reached.{Reached, begun, more, Stripped, none-yet, one-more}
+use Rattle.rim.proofs.Marks.{Way, Held}
+use Rattle.rim.proofs.Reached.{Sound, sound}
+use Rattle.rim.proofs.Rings.{outlined, ring-length}
+use Rattle.rim.proofs.TopSide.{Top, best-top}
 use Rattle.peel.proofs.DrawEnds.{Done, drawn-ends}
 use Rattle.peel.proofs.Simple.{Simple, outline-simple, reads, side, once}
 

@@ -10,11 +10,11 @@ use lib.ListN.{length, getElem?}
 use Rattle.laws.proofs.Order.{level}
 use Rattle.sheet.specs.Office.{Office, points}
 use Rattle.sheet.specs.Acceptable.{Acceptable}
-use Rattle.peel.specs.Peel.{peels, drawn, ring}
+use Rattle.rim.specs.Peel.{peels, drawn, ring}
 use Rattle.peel.specs.List.{Entry, entries, outline}
-use Rattle.peel.specs.Reached.{Reached}
-use Rattle.peel.proofs.Reached.{sound}
-use Rattle.peel.proofs.Rings.{peels-fit, ring-tells}
+use Rattle.rim.specs.Reached.{Reached}
+use Rattle.rim.proofs.Reached.{sound}
+use Rattle.rim.proofs.Rings.{peels-fit, ring-tells}
 use Rattle.peel.proofs.DrawEnds.{drawn-ends}
 use Rattle.peel.proofs.Falls.{At, at-below, below-at, falls-at, falls-two, look-at, look-found}
 use Rattle.peel.proofs.EntriesFall.{peels-are, entries-fall}

@@ -10,11 +10,11 @@ use lib.Dec.{ltb}
 use borrow.Author.Tests.{ltb-true}
 use Rattle.sheet.specs.Office.{Office, sides, triangles}
 use Rattle.sheet.specs.Acceptable.{Acceptable}
-use Rattle.peel.specs.Peel.{best, long, peel, peels, whole}
+use Rattle.rim.specs.Peel.{best, long, peel, peels, whole}
 use Rattle.peel.specs.List.{Entry, listed, entries-from, entries, outline}
-use Rattle.peel.specs.Reached.{Reached, begun, more}
-use Rattle.peel.proofs.Reached.{sound}
-use Rattle.peel.proofs.TopSide.{Top, best-top}
+use Rattle.rim.specs.Reached.{Reached, begun, more}
+use Rattle.rim.proofs.Reached.{sound}
+use Rattle.rim.proofs.TopSide.{Top, best-top}
 use Rattle.peel.proofs.Long.{long-positive}
 use Rattle.peel.proofs.Falls.{Falls, ended, falls, fewer}
 

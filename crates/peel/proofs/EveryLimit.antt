@@ -8,10 +8,10 @@ use native.Mathlib.Omega.{arith}
 use borrow.Author.Tests.{lt-ltb, le-ltb, le-leb}
 use Rattle.sheet.specs.Office.{Office, sides, triangles}
 use Rattle.sheet.specs.Acceptable.{Acceptable}
-use Rattle.peel.specs.Peel.{best, long, turned, peels, whole, drawn}
+use Rattle.rim.specs.Peel.{best, long, turned, peels, whole, drawn}
 use Rattle.peel.specs.List.{Entry, look, listed, entries-from, entries, outline}
 use Rattle.peel.proofs.Look.{looked}
-use Rattle.peel.proofs.TopSide.{Top, best-top}
+use Rattle.rim.proofs.TopSide.{Top, best-top}
 use Rattle.peel.proofs.Long.{long-bound}
 
 module _ {o : Office} (a : Acceptable o) where

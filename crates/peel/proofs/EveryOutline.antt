@@ -6,7 +6,7 @@ use Prim.Native.Nat.{ℕ, suc, _+_, _<_, _≤_}
 use lib.ListN.{length}
 use Rattle.sheet.specs.Office.{Office, points}
 use Rattle.sheet.specs.Acceptable.{Acceptable}
-use Rattle.peel.specs.Peel.{drawn, ring}
+use Rattle.rim.specs.Peel.{drawn, ring}
 use Rattle.peel.specs.List.{Entry, entries, look, outline}
 use Rattle.peel.proofs.Falls.{At}
 use Rattle.peel.proofs.EveryLimit.{looked-up}

@@ -6,7 +6,7 @@ use lib.ListN.{replicate}
 use Rattle.laws.specs.First.{first, atFirst, table, count, sum, walk, stepped, among, once}
 use Rattle.sheet.specs.Plane.{turn, squared, circle}
 use Rattle.sheet.specs.Verdict.{verdict}
-use Rattle.peel.specs.Peel.{rim, on-rim, removable, before, better, best-from, best, ring, peeled, doubled}
+use Rattle.rim.specs.Peel.{rim, on-rim, removable, before, better, best-from, best, ring, peeled, doubled}
 use Rattle.peel.specs.List.{listed, entries-from, entries, outline}
 use Rattle.peel.specs.Outcome.{bereft, fed, feeds, by-verdict, outcome}
 use Rattle.peel.specs.Answer.{tally, count as entries-count, refusal, drawing, listing, after-draw, after-list}

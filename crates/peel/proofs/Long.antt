@@ -7,7 +7,7 @@ use Rattle.sheet.proofs.Side.{next-below}
 use Rattle.sheet.proofs.Corner.{tail-not-head}
 use Rattle.sheet.proofs.Length.{squared-bound, squared-zero}
 use Rattle.sheet.specs.Acceptable.{Acceptable}
-use Rattle.peel.specs.Peel.{long}
+use Rattle.rim.specs.Peel.{long}
 
 module _ {o : Office} (a : Acceptable o) (s : ℕ) (l : s < sides o) where
   head-point : head o s < points o

@@ -15,8 +15,8 @@ use Rattle.sheet.proofs.Side.{own-triangle}
 use Rattle.sheet.proofs.Rotate.{Of, turn-rotates}
 use Rattle.sheet.proofs.Matched.{Matched, turned-back, moved, moved-triangle, same-sides, whole-moved, of-moved, moved-below, triangle-back}
 use Rattle.sheet.specs.Acceptable.{Acceptable}
-use Rattle.peel.specs.Peel.{long, best, peel, turned, peels, whole, drawn, peeled, doubled}
-use Rattle.peel.proofs.TopSide.{Top, best-top}
+use Rattle.rim.specs.Peel.{long, best, peel, turned, peels, whole, drawn, peeled, doubled}
+use Rattle.rim.proofs.TopSide.{Top, best-top}
 use Rattle.peel.proofs.MatchedMarks.{Carried, whole-carried, long-moved, best-moved, peel-carried}
 
 module _ {o n : Office} (re : Matched o n) (a : Acceptable o) where

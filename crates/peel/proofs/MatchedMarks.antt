@@ -17,9 +17,9 @@ use Rattle.sheet.specs.Office.{Office, sides, triangles, point, tail, head, ape
 use Rattle.sheet.proofs.Matched.{Matched, turned-back, named, moved, head-moved, apex-moved, together, reverse-moved, tail-point, head-point, each-side}
 use Rattle.sheet.specs.Acceptable.{Acceptable, Reverse}
 use Rattle.sheet.proofs.MatchedAccept.{accept}
-use Rattle.peel.specs.Peel.{on-rim, removable, sooner, long, first-end, second-end, best, peel, whole}
-use Rattle.peel.proofs.Marks.{Kept, Ends, Rim, OnRim, on-rim-iff, removable-iff}
-use Rattle.peel.proofs.TopSide.{Precedes, Before, Top, best-top, best-iff}
+use Rattle.rim.specs.Peel.{on-rim, removable, sooner, long, first-end, second-end, best, peel, whole}
+use Rattle.rim.proofs.Marks.{Kept, Ends, Rim, OnRim, on-rim-iff, removable-iff}
+use Rattle.rim.proofs.TopSide.{Precedes, Before, Top, best-top, best-iff}
 
 -- marks j of the renumbered office keep the triangles that marks k keep
 pub record Carried {o n : Office} (re : Matched o n) (k j : List ℕ) : Type 0 where

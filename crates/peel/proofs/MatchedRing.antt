@@ -15,11 +15,11 @@ use Rattle.sheet.specs.Office.{Office, rims as hull-sides}
 use Rattle.sheet.proofs.Matched.{Matched, turned-back, named, moved, head-moved, each-side}
 use Rattle.sheet.specs.Acceptable.{Acceptable}
 use Rattle.sheet.proofs.MatchedAccept.{accept}
-use Rattle.peel.specs.Peel.{ring}
+use Rattle.rim.specs.Peel.{ring}
 use Rattle.peel.specs.Renamed.{LowestFirst, Turned}
-use Rattle.peel.proofs.Marks.{Way, rim-iff, on-rim-iff}
-use Rattle.peel.proofs.Reached.{Sound}
-use Rattle.peel.proofs.Rings.{RingRound, outlined}
+use Rattle.rim.proofs.Marks.{Way, rim-iff, on-rim-iff}
+use Rattle.rim.proofs.Reached.{Sound}
+use Rattle.rim.proofs.Rings.{RingRound, outlined}
 use Rattle.peel.proofs.MatchedMarks.{Carried, rim-moved}
 
 carried-back : {o n : Office} (re : Matched o n) {k j : List ℕ} → Carried re k j → Carried (turned-back re) j k

@@ -9,12 +9,12 @@ use Rattle.laws.specs.First.{first, atFirst}
 use Rattle.laws.proofs.Test.{and-iff, not-iff, eqb-iff, any-iff, false-iff}
 use Rattle.sheet.specs.Office.{Office, points, sides, triangles, tail}
 use Rattle.sheet.specs.Acceptable.{Acceptable}
-use Rattle.peel.specs.Peel.{kept, long, best, peel, turned, peels, whole, drawn}
+use Rattle.rim.specs.Peel.{kept, long, best, peel, turned, peels, whole, drawn}
 use Rattle.peel.specs.Outcome.{Outcome, draws, refuses, bereft, fed, feeds}
-use Rattle.peel.specs.Reached.{Reached, begun, more}
-use Rattle.peel.proofs.Marks.{Held}
-use Rattle.peel.proofs.Reached.{sound}
-use Rattle.peel.proofs.TopSide.{Top, best-top}
+use Rattle.rim.specs.Reached.{Reached, begun, more}
+use Rattle.rim.proofs.Marks.{Held}
+use Rattle.rim.proofs.Reached.{sound}
+use Rattle.rim.proofs.TopSide.{Top, best-top}
 
 -- a point that a kept triangle holds is not bereft
 pub not-bereft : (o : Office) (k : List ℕ) (p : ℕ) → Held o k p → bereft o k p ≡ false

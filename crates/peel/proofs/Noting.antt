@@ -11,14 +11,15 @@ use lib.Seq.{sets}
 use borrow.Author.Tests.{lt-ltb, le-ltb}
 use Rattle.sheet.specs.Office.{Office, sides, triangles}
 use Rattle.sheet.specs.Acceptable.{Acceptable}
-use Rattle.peel.specs.Peel.{long, best, peel, turned, peeled}
+use Rattle.rim.specs.Peel.{long, best, peel, turned, peeled}
 use Rattle.peel.specs.List.{Entry, outline, listed, entries-from}
-use Rattle.peel.specs.Code.{front, State, Stepped, Noted, answered, peels-of}
-use Rattle.peel.specs.declared.answers.Step.{Step}
-use Rattle.peel.specs.declared.answers.Step.the-variants.{Peeled, Nothing as Stays}
+use Rattle.rim.specs.Code.{front, State, Stepped, answered, peels-of}
+use Rattle.peel.specs.Code.{Noted}
+use Rattle.rim.specs.declared.answers.Step.{Step}
+use Rattle.rim.specs.declared.answers.Step.the-variants.{Peeled, Nothing as Stays}
 use Rattle.peel.proofs.Long.{long-bound, long-positive}
-use Rattle.peel.proofs.Reached.{sound}
-use Rattle.peel.proofs.TopSide.{Top, best-top}
+use Rattle.rim.proofs.Reached.{sound}
+use Rattle.rim.proofs.TopSide.{Top, best-top}
 use Rattle.peel.proofs.Onward.{not-all}
 
 abbrev entry : Office → ℕ → List ℕ → Entry

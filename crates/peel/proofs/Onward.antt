@@ -8,12 +8,13 @@ use native.Mathlib.Omega.{arith}
 use lib.Dec.{ltb}
 use lib.ListN.{length, drop}
 use Rattle.sheet.specs.Office.{Office, points, triangles}
-use Rattle.peel.specs.Peel.{long, best, peel, turned, peels}
-use Rattle.peel.specs.Code.{front, State, Stepped, Drew, answered, peels-of}
-use Rattle.peel.specs.declared.answers.Step.{Step}
-use Rattle.peel.specs.declared.answers.Step.the-variants.{Peeled, Nothing as Stays}
-use Rattle.peel.proofs.Reached.{sound}
-use Rattle.peel.proofs.Rings.{some-kept}
+use Rattle.rim.specs.Peel.{long, best, peel, turned, peels}
+use Rattle.rim.specs.Code.{front, State, Stepped, answered, peels-of}
+use Rattle.peel.specs.Code.{Drew}
+use Rattle.rim.specs.declared.answers.Step.{Step}
+use Rattle.rim.specs.declared.answers.Step.the-variants.{Peeled, Nothing as Stays}
+use Rattle.rim.proofs.Reached.{sound}
+use Rattle.rim.proofs.Rings.{some-kept}
 
 module _ (o : Office) (limit : ℕ) where
   -- a step that peeled: what the rest comes to

@@ -10,7 +10,7 @@ use Rattle.sheet.specs.Office.{Office, office, rims}
 use Rattle.sheet.specs.Verdict.{Verdict, accepted, refused, verdict}
 use Rattle.sheet.specs.Acceptable.{Acceptable}
 use Rattle.sheet.proofs.Accepted.{accepted-lent}
-use Rattle.peel.specs.Peel.{drawn}
+use Rattle.rim.specs.Peel.{drawn}
 use Rattle.peel.specs.Outcome.{draws, refuses, by-verdict, outcome}
 use Rattle.peel.specs.Answer.{draw-room, list-room, drawing, listing, after-draw, after-list}
 use Rattle.peel.proofs.NeverStarves.{never-starves}

@@ -13,7 +13,7 @@ use Rattle.sheet.specs.Plane.{turn, squared, circle}
 use Rattle.sheet.specs.Office.{Office, office, tail}
 use Rattle.sheet.specs.Verdict.{accepted, verdict}
 use Rattle.sheet.specs.Renumbered.{Renumbered}
-use Rattle.peel.specs.Peel.{rim, on-rim, removable, before, better, best-from, best, ring, peeled, doubled}
+use Rattle.rim.specs.Peel.{rim, on-rim, removable, before, better, best-from, best, ring, peeled, doubled}
 use Rattle.peel.specs.List.{Entry, listed, entries-from, entries, outline}
 use Rattle.peel.proofs.Dozen.{printed}
 

@@ -16,13 +16,13 @@ use Rattle.sheet.specs.Verdict.{Verdict, accepted, refused, verdict}
 use Rattle.sheet.specs.Renumbered.{Renumbered}
 use Rattle.sheet.proofs.Accepted.{accepted-lent}
 use Rattle.sheet.proofs.SameVerdict.{acceptable-same}
-use Rattle.peel.specs.Peel.{on-rim, drawn, rims, ring, peeled, doubled}
+use Rattle.rim.specs.Peel.{mark, on-rim, drawn, rims, ring, peeled, doubled}
 use Rattle.peel.specs.List.{outline}
-use Rattle.peel.specs.Answer.{mark, tally, draw-answer, drawing, draw-room, used, DrawPromise}
+use Rattle.peel.specs.Answer.{tally, draw-answer, drawing, draw-room, used, DrawPromise}
 use Rattle.peel.specs.Code.{Lent}
 use Rattle.peel.specs.Renamed.{Turned}
 use Rattle.peel.specs.declared.Drawn.{Drawn}
-use Rattle.peel.proofs.Reached.{sound}
+use Rattle.rim.proofs.Reached.{sound}
 use Rattle.peel.proofs.DrawEnds.{drawn-ends}
 use Rattle.peel.proofs.Outcomes.{draw-given, draw-refused}
 use Rattle.peel.proofs.UsedPart.{ring-sides, used-front}

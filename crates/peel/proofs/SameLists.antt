@@ -10,7 +10,7 @@ use Rattle.sheet.specs.Office.{Office, office, rims as hull-sides}
 use Rattle.sheet.specs.Verdict.{Verdict, accepted, refused, verdict}
 use Rattle.sheet.specs.Renumbered.{Renumbered}
 use Rattle.sheet.proofs.Accepted.{accepted-lent}
-use Rattle.peel.specs.Peel.{drawn, rims, ring, peeled}
+use Rattle.rim.specs.Peel.{drawn, rims, ring, peeled}
 use Rattle.peel.specs.List.{Entry, entries, outline}
 use Rattle.peel.specs.Answer.{count, list-answer, drawing, listing, list-room, column, ListPromise}
 use Rattle.peel.specs.Code.{Lent}

@@ -20,10 +20,10 @@ use Rattle.sheet.proofs.Tiled.{tiling}
 use Rattle.sheet.proofs.Between.{Between, nothing-within}
 use Rattle.sheet.proofs.Meet.{Opposite, no-crossing}
 use Rattle.sheet.proofs.Inner.{Inner, shared}
-use Rattle.peel.specs.Peel.{rim, ring, drawn}
-use Rattle.peel.proofs.Marks.{Way, rim-iff}
-use Rattle.peel.proofs.Reached.{Sound, sound}
-use Rattle.peel.proofs.Rings.{outlined, ring-length}
+use Rattle.rim.specs.Peel.{rim, ring, drawn}
+use Rattle.rim.proofs.Marks.{Way, rim-iff}
+use Rattle.rim.proofs.Reached.{Sound, sound}
+use Rattle.rim.proofs.Rings.{outlined, ring-length}
 use Rattle.peel.proofs.DrawEnds.{drawn-ends}
 
 module _ (o : Office) (row : List ℕ) where

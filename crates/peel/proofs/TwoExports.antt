@@ -8,7 +8,7 @@ use Rattle.sheet.specs.Acceptable.{Acceptable}
 use Rattle.sheet.specs.Renumbered.{Renumbered}
 use Rattle.sheet.proofs.Matched.{Matched}
 use Rattle.sheet.proofs.Places.{matched, matched-number, matched-triangle}
-use Rattle.peel.specs.Peel.{on-rim, drawn}
+use Rattle.rim.specs.Peel.{on-rim, drawn}
 use Rattle.peel.specs.List.{outline, entries}
 use Rattle.peel.specs.Renamed.{Renamed, Paired}
 use Rattle.peel.proofs.MatchedMarks.{on-rim-same}

@@ -11,7 +11,7 @@ use Rattle.laws.specs.First.{first}
 use Rattle.laws.proofs.Walk.{length-walk}
 use Rattle.sheet.specs.Office.{Office, office, points}
 use Rattle.sheet.specs.Verdict.{Verdict, accepted, refused, verdict}
-use Rattle.peel.specs.Peel.{on-rim, rims, after, ring, drawn}
+use Rattle.rim.specs.Peel.{on-rim, rims, after, ring, drawn}
 use Rattle.peel.specs.Answer.{tally, drawing, draw-room, after-draw, used}
 use Rattle.peel.proofs.Outcomes.{draw-given, draw-refused}
 

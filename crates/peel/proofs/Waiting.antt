@@ -12,13 +12,13 @@ use lib.Dec.{eqb}
 use Rattle.laws.proofs.Test.{false-iff, or-iff, eqb-iff}
 use Rattle.sheet.specs.Office.{Office, sides, apex}
 use Rattle.sheet.specs.Acceptable.{Acceptable}
-use Rattle.peel.specs.Peel.{rim, on-rim, removable, long, before, best, peel}
-use Rattle.peel.proofs.Marks.{rim-iff, on-rim-iff, removable-iff}
-use Rattle.peel.proofs.OnePeel.{Peelable, outward, inward, rim-after, OldOrBared}
-use Rattle.peel.proofs.RimPoints.{on-rim-after}
-use Rattle.peel.specs.Reached.{Reached, more}
-use Rattle.peel.proofs.Reached.{sound, peelable}
-use Rattle.peel.proofs.TopSide.{Before, before-iff, before-total, best-iff}
+use Rattle.rim.specs.Peel.{rim, on-rim, removable, long, before, best, peel}
+use Rattle.rim.proofs.Marks.{rim-iff, on-rim-iff, removable-iff}
+use Rattle.rim.proofs.OnePeel.{Peelable, outward, inward, rim-after, OldOrBared}
+use Rattle.rim.proofs.RimPoints.{on-rim-after}
+use Rattle.rim.specs.Reached.{Reached, more}
+use Rattle.rim.proofs.Reached.{sound, peelable}
+use Rattle.rim.proofs.TopSide.{Before, before-iff, before-total, best-iff}
 use Rattle.peel.proofs.DrawEnds.{Done}
 
 -- the sides q with `In q` wait at marks k, after n peels

@@ -7,17 +7,13 @@ use lib.Dec.{leb}
 use lib.ListN.{length, take, drop}
 use Rattle.laws.specs.First.{table}
 use Rattle.sheet.specs.Office.{Office, office, points, triangles}
-use Rattle.peel.specs.Peel.{on-rim, rims, ring, peeled, doubled}
+use Rattle.rim.specs.Peel.{mark, on-rim, rims, ring, peeled, doubled}
 use Rattle.peel.specs.List.{Entry, entries}
 use Rattle.peel.specs.Outcome.{Outcome, draws, refuses, outcome}
 use Rattle.peel.specs.declared.Drawn.{Drawn}
 use Rattle.peel.specs.declared.Drawn.the-variants.{Outline, Refused}
 use Rattle.peel.specs.declared.Listed.{Listed}
 use Rattle.peel.specs.declared.Listed.the-variants.{Entries, Refused as Unlisted}
-
--- a mark
-abbrev pub mark : Bool → ℕ
-mark b = cond b 1 0
 
 -- triangles peeled, doubled area and ring length; or how many entries; or a refusal's number and place
 pub data Answer : Type 0 where

@@ -7,7 +7,7 @@ use lib.Dec.{ltb, eqb}
 use Rattle.laws.specs.First.{any, atFirst}
 use Rattle.sheet.specs.Office.{Office, points, sides, triangles, tail}
 use Rattle.sheet.specs.Verdict.{Verdict, accepted, refused, verdict}
-use Rattle.peel.specs.Peel.{kept, long, best, peel, whole}
+use Rattle.rim.specs.Peel.{kept, long, best, peel, whole}
 
 -- the marks drawn, or a refusal's number and place
 pub data Outcome : Type 0 where

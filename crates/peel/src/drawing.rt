@@ -1,17 +1,18 @@
 // The outline of an acceptable office at a limit.
-use crate::Tally;
-use crate::answers::Step;
-use crate::ring::lay_ring;
-use crate::start::begin;
-use crate::step::step;
+use rim::Tally;
+use rim::answers::Step;
+use rim::ring::lay_ring;
+use rim::start::begin;
+use rim::step::step;
 use sheet::sides::mates;
 ghost use mathlib.Core.Path.{_≡_};
 ghost use Prim.Native.Nat.{_/_, _≤_};
 ghost use lib.ListN.{length};
 ghost use Rattle.sheet.specs.Office.{office};
 ghost use Rattle.sheet.specs.Acceptable.{Acceptable};
-ghost use Rattle.peel.specs.Code.{State, Drew, Outlined};
-ghost use Rattle.peel.specs.Peel as peeling;
+ghost use Rattle.rim.specs.Code.{State};
+ghost use Rattle.peel.specs.Code.{Drew, Outlined};
+ghost use Rattle.rim.specs.Peel as peeling;
 ghost use Rattle.sheet.specs.Office as sheet;
 
 // Peels until nothing is removable above the limit.

@@ -1,56 +1,18 @@
 // Layer 2, peeling: draw, outline and list. Document 01, 'Peeling'.
-mod answers;
-mod best;
 mod drawing;
 mod listing;
-mod ring;
 mod room;
-mod sides;
-mod start;
-mod step;
 
 use drawing::draw_accepted;
 use listing::list_accepted;
+pub use rim::Tally;
 use room::draw_room;
 use room::list_room;
 use sheet::Checked;
 use sheet::Refusal;
 use sheet::check_lent;
 ghost use mathlib.Core.Path.{_≡_};
-ghost use Prim.Native.Nat.{_+_, _<_};
 ghost use Rattle.peel.specs.Answer.{used, DrawPromise, ListPromise};
-
-// The running tally: triangles peeled, twice the area of those kept, and the ring's length.
-pub struct Tally {
-    pub peeled: u32,
-    pub area: u32,
-    pub ring: usize,
-}
-
-impl Tally {
-    // Nothing is peeled yet.
-    fn fresh(area: u32, ring: usize) -> Tally
-        ensures { λ r. ⌜ (r .peeled ≡ 0) × (r .area ≡ area) × (r .ring ≡ ring) ⌝ }
-    {
-        Tally {
-            peeled: 0,
-            area: area,
-            ring: ring,
-        }
-    }
-
-    // After one peel, with the new area and ring length.
-    fn after_peel(self, area: u32, ring: usize) -> Tally
-        requires { ⌜ self .peeled < 2043 ⌝ }
-        ensures { λ r. ⌜ (r .peeled ≡ self .peeled + 1) × (r .area ≡ area) × (r .ring ≡ ring) ⌝ }
-    {
-        Tally {
-            peeled: self.peeled + 1,
-            area: area,
-            ring: ring,
-        }
-    }
-}
 
 // What a draw answers.
 pub enum Drawn {
@@ -77,7 +39,7 @@ pub fn draw(
 ) -> Drawn
     ensures { λ r. ⌜ DrawPromise (now (xs .entry)) (now (ys .entry)) (now (corners .entry)) limit (now (kept .entry)) (now (rim .entry)) (now (ring .entry)) r (now (kept .exit)) (now (rim .exit)) (now (ring .exit)) ⌝ }
 {
-    let room = draw_room(xs, corners, kept, rim, ring);
+    let room = draw_room(xs.len(), corners.len(), kept.len(), rim.len(), ring.len());
     let checked = check_lent(xs, ys, corners, room);
     match checked {
         Checked::Refused(refusal) => {
@@ -116,7 +78,16 @@ pub fn list(
 ) -> Listed
     ensures { λ r. ⌜ ListPromise (now (xs .entry)) (now (ys .entry)) (now (corners .entry)) (now (kept .entry)) (now (rim .entry)) (now (ring .entry)) (now (least .entry)) (now (peeled .entry)) (now (area .entry)) r (now (kept .exit)) (now (rim .exit)) (now (ring .exit)) (now (least .exit)) (now (peeled .exit)) (now (area .exit)) ⌝ }
 {
-    let room = list_room(xs, corners, kept, rim, ring, least, peeled, area);
+    let room = list_room(
+        xs.len(),
+        corners.len(),
+        kept.len(),
+        rim.len(),
+        ring.len(),
+        least.len(),
+        peeled.len(),
+        area.len(),
+    );
     let checked = check_lent(xs, ys, corners, room);
     match checked {
         Checked::Refused(refusal) => {

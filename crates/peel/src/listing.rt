@@ -1,10 +1,9 @@
 // All outlines of an acceptable office.
-use crate::Tally;
-use crate::answers::Ended;
-use crate::answers::Step;
-use crate::ring::lay_ring;
-use crate::start::begin;
-use crate::step::step;
+use rim::Tally;
+use rim::answers::Step;
+use rim::ring::lay_ring;
+use rim::start::begin;
+use rim::step::step;
 use sheet::sides::mates;
 ghost use mathlib.Core.Path.{_≡_};
 ghost use Prim.Native.Nat.{_+_, _/_, _≤_};
@@ -12,9 +11,16 @@ ghost use lib.ListN.{length};
 ghost use Rattle.sheet.specs.Office.{area, office};
 ghost use Rattle.sheet.specs.Acceptable.{Acceptable};
 ghost use Rattle.peel.specs.List.{entries};
-ghost use Rattle.peel.specs.Code.{State, Drew, entries-on, Noted, Lent, Written};
-ghost use Rattle.peel.specs.Peel as peeling;
+ghost use Rattle.rim.specs.Code.{State};
+ghost use Rattle.peel.specs.Code.{Drew, entries-on, Noted, Lent, Written};
+ghost use Rattle.rim.specs.Peel as peeling;
 ghost use Rattle.sheet.specs.Office as sheet;
+
+// How many entries a list has, and the tally of the last.
+pub struct Ended {
+    pub count: usize,
+    pub tally: Tally,
+}
 
 // Peels until nothing is removable, and writes an entry before each peel that is shorter than all before, and one at the end.
 pub fn list_all(

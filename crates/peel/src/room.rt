@@ -1,15 +1,14 @@
-// Whether the lent buffers are long enough.
+// Whether the lent buffers are long enough, by their lengths.
 ghost use mathlib.Core.Path.{_≡_};
-ghost use mathlib.Core.List.{[]};
-ghost use Prim.Native.Nat.{_-_};
-ghost use Rattle.sheet.specs.Office.{office};
-ghost use Rattle.peel.specs.Answer.{draw-room, list-room};
+ghost use mathlib.Core.Bool.{_&&_};
+ghost use Prim.Native.Nat.{_-_, _/_};
+ghost use lib.Dec.{leb};
 
 // A mark per triangle, a mark per point, and a ring of all points.
-pub fn draw_room(xs: &[u16], corners: &[u16], kept: &[u8], rim: &[u8], ring: &[u16]) -> bool
-    ensures { λ b. ⌜ b ≡ draw-room (office (now (xs .entry)) [] (now (corners .entry))) (now (kept .entry)) (now (rim .entry)) (now (ring .entry)) ⌝ }
+pub fn draw_room(points: usize, corners: usize, kept: usize, rim: usize, ring: usize) -> bool
+    ensures { λ b. ⌜ b ≡ (leb (corners / 3) kept && leb points rim && leb points ring) ⌝ }
 {
-    (corners.len() / 3 <= kept.len()) & (xs.len() <= rim.len()) & (xs.len() <= ring.len())
+    (corners / 3 <= kept) & (points <= rim) & (points <= ring)
 }
 
 // How many entries there can be.
@@ -21,18 +20,18 @@ pub fn less_two(points: usize) -> usize
 
 // The same, and a place for each entry in the three lists.
 pub fn list_room(
-    xs: &[u16],
-    corners: &[u16],
-    kept: &[u8],
-    rim: &[u8],
-    ring: &[u16],
-    least: &[u32],
-    peeled: &[u32],
-    area: &[u32],
+    points: usize,
+    corners: usize,
+    kept: usize,
+    rim: usize,
+    ring: usize,
+    least: usize,
+    peeled: usize,
+    area: usize,
 ) -> bool
-    ensures { λ b. ⌜ b ≡ list-room (office (now (xs .entry)) [] (now (corners .entry))) (now (kept .entry)) (now (rim .entry)) (now (ring .entry)) (now (least .entry)) (now (peeled .entry)) (now (area .entry)) ⌝ }
+    ensures { λ b. ⌜ b ≡ (leb (corners / 3) kept && leb points rim && leb points ring && leb (points - 2) least && leb (points - 2) peeled && leb (points - 2) area) ⌝ }
 {
-    let marks = draw_room(xs, corners, kept, rim, ring);
-    let most = less_two(xs.len());
-    marks & (most <= least.len()) & (most <= peeled.len()) & (most <= area.len())
+    let marks = draw_room(points, corners, kept, rim, ring);
+    let most = less_two(points);
+    marks & (most <= least) & (most <= peeled) & (most <= area)
 }

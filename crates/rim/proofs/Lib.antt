@@ -1,0 +1,20 @@
+-- Theorems about the definitions. One peel, and what holds of all marks that peels lead to:
+pub mod Marks
+pub mod OnePeel
+pub mod RimPoints
+pub mod Starve
+pub mod Tallied
+pub mod Grow
+pub mod Reached
+pub mod Rings
+pub mod Greatest
+-- the side to peel next
+pub mod TopSide
+-- what the functions' proofs cite
+pub mod Mated
+pub mod Cornered
+pub mod InOrder
+pub mod Finding
+pub mod Stepping
+pub mod Begun
+pub mod Ringed

@@ -1,0 +1,3 @@
+pub mod Peel
+pub mod Reached
+pub mod Code

@@ -1,0 +1,26 @@
+// What the private searches and steps of this layer answer.
+use crate::Tally;
+
+// The side to peel next, by the place of its first corner, with its squared length.
+pub enum Best {
+    Side { place: usize, squared: u32 },
+    Nothing,
+}
+
+// A side's two ends by their point numbers, in their order.
+pub struct Ends {
+    pub first: usize,
+    pub second: usize,
+}
+
+// What one step did.
+pub enum Step {
+    Peeled { triangle: usize, squared: u32 },
+    Nothing,
+}
+
+// A step's answer, and the tally that it hands back.
+pub struct Moved {
+    pub step: Step,
+    pub tally: Tally,
+}
