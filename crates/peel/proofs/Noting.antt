@@ -105,16 +105,10 @@ module _ {o : Office} {es : List Entry} {mate kept rim kept′ rim′ : List ℕ
     more : suc i + length rest ≡ length es
     more = let z : length (entries-from o (triangles o - p) m k) ≡ suc (length rest) = ap length e in let w = h .counts in omega arith
 
-    pub least-there : i < length least
-    least-there = let z = more in let r = h .rooms .0 in omega arith
+    places : (i < length least) × (i < length peels) × (i < length areas)
+    places = let z = more in (omega (arith, h .rooms .0), omega (arith, h .rooms .1), omega (arith, h .rooms .2))
 
-    pub peels-there : i < length peels
-    peels-there = let z = more in let r = h .rooms .1 in omega arith
-
-    pub areas-there : i < length areas
-    areas-there = let z = more in let r = h .rooms .2 in omega arith
-
-    pub count-is : peeled o k ≡ p
+    count-is : peeled o k ≡ p
     count-is = sound o (s .held .acceptable) (s .reached) .count
 
     least-on : sets (set least i q) (suc i) (map (λ e. e .least) rest) ≡ sets least₀ 0 (map (λ e. e .least) es)
@@ -131,11 +125,18 @@ module _ {o : Office} {es : List Entry} {mate kept rim kept′ rim′ : List ℕ
   next-place : suc i ≡ i + 1
   next-place = omega arith
 
-  pub shorter-is : (t q : ℕ) → answer ≡ Peeled t q → q < m → entries-from o (triangles o - p) m k ≡ entry o q k ∷ entries-from o (triangles o - p′) q k′
+  shorter-is : (t q : ℕ) → answer ≡ Peeled t q → q < m → entries-from o (triangles o - p) m k ≡ entry o q k ∷ entries-from o (triangles o - p′) q k′
   shorter-is t q e l = unfolds (triangles o - p′) (one-less t q e) ∙ shorter (s .held .acceptable) k (entries-from o (triangles o - p′)) m (best o k) t q k′ (sym e ∙ g .says) (g .marks) l
 
-  pub final-is : answer ≡ Stays → entries-from o (triangles o - p) m k ≡ entry o 0 k ∷ []
+  final-is : answer ≡ Stays → entries-from o (triangles o - p) m k ≡ entry o 0 k ∷ []
   final-is e = unfolds (triangles o - suc p) (let l = not-all s in omega arith) ∙ final (s .held .acceptable) k (entries-from o (triangles o - suc p)) m (best o k) (best-top (s .held .acceptable) k) (sym e ∙ g .says)
+
+  -- the entry written has its place in each list
+  pub shorter-there : (t q : ℕ) → answer ≡ Peeled t q → q < m → (i < length least) × (i < length peels) × (i < length areas)
+  shorter-there t q e l = places q (entries-from o (triangles o - p′) q k′) (shorter-is t q e l)
+
+  pub final-there : answer ≡ Stays → (i < length least) × (i < length peels) × (i < length areas)
+  final-there e = places 0 [] (final-is e)
 
   pub notes-one : (t q : ℕ) → answer ≡ Peeled t q → q < m → Noting o es kept′ p′ q (i + 1) least₀ peeled₀ area₀ (set least i q) (set peels i p) (set areas i area)
   notes-one t q e l =

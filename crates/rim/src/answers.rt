@@ -1,4 +1,4 @@
-// What the private searches and steps of this layer answer.
+// What the searches and steps of this layer answer.
 use crate::Tally;
 
 // The side to peel next, by the place of its first corner, with its squared length.

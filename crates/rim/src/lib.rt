@@ -1,9 +1,9 @@
 // Layer 2, one peel on the rim: the marks and the tally before the first peel, a step, and the ring. Document 01, 'Peeling'.
 // For the layers above: no public call, so a `requires` may stand.
 pub mod answers;
-pub mod best;
+mod best;
 pub mod ring;
-pub mod sides;
+mod sides;
 pub mod start;
 pub mod step;
 

@@ -12,7 +12,7 @@ returns c =
     let d = c .before .before .before .before .before .before .before .before .before .before .before in
     let b = d .before .before .before .before .before .before .before .before in
     let a = b .before .before .before .before .before .before .before .before .before .before .before .args in
-    drawn-all (office (a .xs .now) (a .ys .now) (a .corners .now)) (a .limit) (a .kept .now) (a .rim .now) (a .ring .now) (b .begin .ensures) (d .peel-all .ensures) (c .before .before .lay-ring .ensures)
+    drawn-all (office (a .xs .now) (a .ys .now) (a .corners .now)) _ (a .kept .now) (a .rim .now) (a .ring .now) (b .begin .ensures) (d .peel-all .ensures) (c .before .before .lay-ring .ensures)
 
 pub draw-accepted-spec : {M : Type 1} → statement M
 draw-accepted-spec =

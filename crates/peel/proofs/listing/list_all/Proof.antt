@@ -1,14 +1,13 @@
 -- `peel::listing::list_all` meets its contract: what is left to list gives the whole list. Assumes nothing.
 use mathlib.Core.Path.{_∙_}
-use mathlib.Core.List.{[]}
-use Prim.Native.Nat.{_-_, _/_, _<_}
+use Prim.Native.Nat.{_+_, _*_, _-_, _/_, _<_}
 use native.Mathlib.Omega.{arith}
 use borrow.Author.Needs.{needs}
 use lib.ListN.{length, length-set}
 use Rattle.peel.specs.Code.{entries-on}
 use Rattle.sheet.specs.Office.{office}
 use Rattle.peel.proofs.Onward.{Drawing, draws, draws-on, falls, drew}
-use Rattle.peel.proofs.Noting.{Noting, notes, notes-one, notes-none, noted, shorter-is, final-is, least-there, peels-there, areas-there}
+use Rattle.peel.proofs.Noting.{Noting, notes, notes-one, notes-none, noted, shorter-there, final-there}
 use Rattle.peel.proofs.listing.list_all.Statement.{statement}
 use Rattle.peel.proofs.listing.list_all.Tie as tie
 
@@ -26,28 +25,22 @@ module _ (c : tie.After-enum-told Inv-loop μ-loop) where
   abbrev at : tie.At-loop Inv-loop μ-loop
   at = c .before .before .before .before .before .before .before .before .before .before
 
-  in-least : at .loop .count < length (at .loop .least)
-  in-least = least-there (at .loop .inv .0 .state) (c .before .before .before .before .before .before .before .step .ensures) (at .loop .inv .1) 0 [] (final-is (at .loop .inv .0 .state) (c .before .before .before .before .before .before .before .step .ensures) (at .loop .inv .1) (c .enum-told .given .1))
+  in-lists : (at .loop .count < length (at .loop .least)) × (at .loop .count < length (at .loop .peeled)) × (at .loop .count < length (at .loop .area))
+  in-lists = final-there (at .loop .inv .0 .state) (c .before .before .before .before .before .before .before .step .ensures) (at .loop .inv .1) (c .enum-told .given .1)
 
-  in-peeled : at .loop .count < length (at .loop .peeled)
-  in-peeled = peels-there (at .loop .inv .0 .state) (c .before .before .before .before .before .before .before .step .ensures) (at .loop .inv .1) 0 [] (final-is (at .loop .inv .0 .state) (c .before .before .before .before .before .before .before .step .ensures) (at .loop .inv .1) (c .enum-told .given .1))
-
-  in-area : at .loop .count < length (at .loop .area)
-  in-area = areas-there (at .loop .inv .0 .state) (c .before .before .before .before .before .before .before .step .ensures) (at .loop .inv .1) 0 [] (final-is (at .loop .inv .0 .state) (c .before .before .before .before .before .before .before .step .ensures) (at .loop .inv .1) (c .enum-told .given .1))
+  in-reach : at .loop .count * 4 + 4 < 18446744073709551616
+  in-reach = omega (arith, in-lists .0, at .loop .inv .1 .longs .0, at .before .before .before .before .before .before .before .before .before .good .1 .1 .1 .1 .1 .1 .1 .0)
 
 -- a side shorter than all before was peeled: its entry has its place
 module _ (c : tie.Then1 Inv-loop μ-loop) where
   abbrev at2 : tie.At-loop Inv-loop μ-loop
   at2 = c .before .before .before .before .before .before .before .before .before .before .before .before
 
-  in-least2 : at2 .loop .count < length (at2 .loop .least)
-  in-least2 = least-there (at2 .loop .inv .0 .state) (c .before .before .before .before .before .before .before .before .before .step .ensures) (at2 .loop .inv .1) _ _ (shorter-is (at2 .loop .inv .0 .state) (c .before .before .before .before .before .before .before .before .before .step .ensures) (at2 .loop .inv .1) _ _ (c .before .before .answer .given .1) (c .if1 .taken))
+  in-lists2 : (at2 .loop .count < length (at2 .loop .least)) × (at2 .loop .count < length (at2 .loop .peeled)) × (at2 .loop .count < length (at2 .loop .area))
+  in-lists2 = shorter-there (at2 .loop .inv .0 .state) (c .before .before .before .before .before .before .before .before .before .step .ensures) (at2 .loop .inv .1) _ _ (c .before .before .answer .given .1) (c .if1 .taken)
 
-  in-peeled2 : at2 .loop .count < length (at2 .loop .peeled)
-  in-peeled2 = peels-there (at2 .loop .inv .0 .state) (c .before .before .before .before .before .before .before .before .before .step .ensures) (at2 .loop .inv .1) _ _ (shorter-is (at2 .loop .inv .0 .state) (c .before .before .before .before .before .before .before .before .before .step .ensures) (at2 .loop .inv .1) _ _ (c .before .before .answer .given .1) (c .if1 .taken))
-
-  in-area2 : at2 .loop .count < length (at2 .loop .area)
-  in-area2 = areas-there (at2 .loop .inv .0 .state) (c .before .before .before .before .before .before .before .before .before .step .ensures) (at2 .loop .inv .1) _ _ (shorter-is (at2 .loop .inv .0 .state) (c .before .before .before .before .before .before .before .before .before .step .ensures) (at2 .loop .inv .1) _ _ (c .before .before .answer .given .1) (c .if1 .taken))
+  in-reach2 : at2 .loop .count * 4 + 4 < 18446744073709551616
+  in-reach2 = omega (arith, in-lists2 .0, at2 .loop .inv .1 .longs .0, at2 .before .before .before .before .before .before .before .before .before .good .1 .1 .1 .1 .1 .1 .1 .0)
 
 pub list-all-spec : {M : Type 1} → statement M
 list-all-spec =
@@ -56,13 +49,13 @@ list-all-spec =
     (λ c. (draws _ (c .before .before .before .before .before .before .before .before .pre .0), notes (c .before .before .before .before .before .before .before .before .pre .0 .held .acceptable) _ _ _ _ _ (c .before .before .before .before .before .before .before .before .pre .1)))
     (λ c κs. c .before .before .loop .inv .0 .state)
     (λ c. search needs)
-    (λ c. omega (arith, in-least c, at c .loop .inv .1 .longs, at c .before .before .before .before .before .before .before .before .before .good))
-    (λ c. in-least c)
-    (λ c. omega (arith, in-peeled c, at c .loop .inv .1 .longs, at c .before .before .before .before .before .before .before .before .before .good))
-    (λ c. in-peeled c)
-    (λ c. omega (arith, in-area c, at c .loop .inv .1 .longs, at c .before .before .before .before .before .before .before .before .before .good))
-    (λ c. in-area c)
-    (λ c. omega (arith, in-least c, at c .loop .inv .1 .longs, at c .before .before .before .before .before .before .before .before .before .good))
+    (λ c. omega (arith, in-reach c))
+    (λ c. in-lists c .0)
+    (λ c. omega (arith, in-reach c))
+    (λ c. in-lists c .1)
+    (λ c. omega (arith, in-reach c))
+    (λ c. in-lists c .2)
+    (λ c. omega (arith, in-reach c))
     (λ c. c .before .before .before .before .before .before .before .step .ensures .kept-long ∙ at c .loop .inv .0 .kept-long)
     (λ c. c .before .before .before .before .before .before .before .step .ensures .rim-long ∙ at c .loop .inv .0 .rim-long)
     (λ c. length-set (at c .loop .least) (at c .loop .count) 0 ∙ at c .loop .inv .1 .longs .0)
@@ -73,13 +66,13 @@ list-all-spec =
       noted (at c .loop .inv .0 .state) (c .before .before .before .before .before .before .before .step .ensures) (at c .loop .inv .1) (c .enum-told .given .1),
     ))
     (λ c. search needs)
-    (λ c. omega (arith, in-least2 c, at2 c .loop .inv .1 .longs, at2 c .before .before .before .before .before .before .before .before .before .good))
-    (λ c. in-least2 c)
-    (λ c. omega (arith, in-peeled2 c, at2 c .loop .inv .1 .longs, at2 c .before .before .before .before .before .before .before .before .before .good))
-    (λ c. in-peeled2 c)
-    (λ c. omega (arith, in-area2 c, at2 c .loop .inv .1 .longs, at2 c .before .before .before .before .before .before .before .before .before .good))
-    (λ c. in-area2 c)
-    (λ c. omega (arith, in-least2 c, at2 c .loop .inv .1 .longs, at2 c .before .before .before .before .before .before .before .before .before .good))
+    (λ c. omega (arith, in-reach2 c))
+    (λ c. in-lists2 c .0)
+    (λ c. omega (arith, in-reach2 c))
+    (λ c. in-lists2 c .1)
+    (λ c. omega (arith, in-reach2 c))
+    (λ c. in-lists2 c .2)
+    (λ c. omega (arith, in-reach2 c))
     (λ c. falls (c .before .before .before .before .before .before .before .before .before .before .before .before .loop .inv .0) (c .before .before .before .before .before .before .before .before .before .step .ensures) _ _ (c .before .before .answer .given .1))
     (λ c. (
       draws-on (c .before .before .before .before .before .before .before .before .before .before .before .before .loop .inv .0) (c .before .before .before .before .before .before .before .before .before .step .ensures) _ _ (c .before .before .answer .given .1),
