@@ -13,9 +13,9 @@ use lib.Seq.{length-take-le, take-at, drop-at}
 use Rattle.laws.proofs.Test.{and-iff}
 use Rattle.shape.specs.Bytes.{inOrder}
 use Rattle.shape.specs.Writing.{polygon, low}
+use Rattle.shape.proofs.Lengths.{order-length, polygon-length}
 use Rattle.exchange.specs.Districts.{polygons, district-head, district-file, total, rings, district-size}
 use Rattle.exchange.specs.DistrictRefusals.{Rings}
-use Rattle.shape.proofs.Lengths.{order-length, polygon-length}
 use Rattle.exchange.proofs.Lows.{low-parts, low-more, low-none}
 
 -- ---- lists in two parts

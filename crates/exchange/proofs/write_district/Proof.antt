@@ -6,10 +6,10 @@ use borrow.Author.Needs.{needs}
 use denote.Ref.{now}
 use lib.ListN.{length, replicate, length-replicate}
 use Rattle.laws.proofs.Put.{put-front}
-use Rattle.exchange.specs.Districts.{district, district-size}
 use Rattle.shape.specs.Answers.{gives}
 use Rattle.shape.proofs.Asking.{stops-call, passes-call, stops-above, passes-below, stops-other, passes-same, ends, stays}
 use Rattle.shape.proofs.Floats.{holds}
+use Rattle.exchange.specs.Districts.{district, district-size}
 use Rattle.exchange.proofs.DistrictWriting.{ringed, few-are}
 use Rattle.exchange.proofs.DistrictLaws.{district-file-length}
 use Rattle.exchange.proofs.write_district.Statement.{statement}
