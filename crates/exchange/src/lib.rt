@@ -1,5 +1,5 @@
 // Layer 3, polygon bytes: write a ring, read a ring, judge one coordinate; surveyors' point files; and district files. Document 01, 'Polygon
-// bytes', and document 02, 1/13 and 3/13.
+// bytes', and document 02, 1/13 and 3/13. Numbers, coordinates and one polygon at a place are shape's.
 // No call asks anything of its caller, and a refusal writes nothing.
 mod districts;
 mod points;
