@@ -14,13 +14,13 @@ use Rattle.shape.specs.Answers.{Question, must, Answer, gives, refused, asked}
 use Rattle.shape.specs.Writing.{low}
 use Rattle.shape.specs.Reading.{type-asks, length-at, end, polygon-asks}
 use Rattle.shape.specs.Refusals.{Closed, PolygonFault, Low}
-use Rattle.exchange.specs.Districts.{total, rings, district-size, district-writing, parts-asks, parts-end, part-lengths, ring-count, ring-count-asks, district-head-asks, district-asks, district-answer, district-end}
-use Rattle.exchange.specs.DistrictRefusals.{Few, Summed, Rings, Divided, DistrictWriteFault, other-count, other-sum, no-rings, too-high, too-short, CountedHead, GoodDistrictHead, Parted, DistrictFault, other-shape, no-count, no-places, bad-part, left-over, DistrictTaken}
 use Rattle.shape.proofs.Asking.{fault, stops, passes, stops-above, passes-below, ends, passes-all, stops-first, refused-other, gives-other, ask-cases, part-cases}
 use Rattle.shape.proofs.Heads.{passed-one, passed-all, passed-both}
 use Rattle.shape.proofs.Polygons.{polygon-good}
 use Rattle.shape.proofs.Runs.{nothing-left, Exact, Row, all-fine, fine-all, first-bad, bad-first}
 use Rattle.shape.proofs.Shapes.{not-both, either-fails, typed, typed-passes, type-fault, type-refuses}
+use Rattle.exchange.specs.Districts.{total, rings, district-size, district-writing, parts-asks, parts-end, part-lengths, ring-count, ring-count-asks, district-head-asks, district-asks, district-answer, district-end}
+use Rattle.exchange.specs.DistrictRefusals.{Few, Summed, Rings, Divided, DistrictWriteFault, other-count, other-sum, no-rings, too-high, too-short, CountedHead, GoodDistrictHead, Parted, DistrictFault, other-shape, no-count, no-places, bad-part, left-over, DistrictTaken}
 use Rattle.exchange.proofs.Refused.{polygon-refused-exactly}
 use Rattle.exchange.proofs.ReadExactly.{polygon-taken-exactly}
 use Rattle.exchange.proofs.WriteExactly.{lows-exactly}

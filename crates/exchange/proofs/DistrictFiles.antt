@@ -10,11 +10,11 @@ use lib.ListN.{length}
 use Rattle.laws.proofs.Test.{and-iff}
 use Rattle.shape.specs.Answers.{must, Answer, gives, refused, asked}
 use Rattle.shape.specs.Reading.{type-asks}
-use Rattle.exchange.specs.Districts.{parts-asks, ring-count, district-end, ring-count-asks, district-head-asks, district-asks, district-answer}
-use Rattle.exchange.specs.DistrictRefusals.{GoodDistrictHead}
 use Rattle.shape.proofs.Asking.{fault, passes, passes-all, stops-first, stops-call, passes-call, stops-above, passes-below, ends, given-is, gives-other}
 use Rattle.shape.proofs.Heads.{passed-one, passed-all, passed-both}
 use Rattle.shape.proofs.Shapes.{typed, typed-passes}
+use Rattle.exchange.specs.Districts.{parts-asks, ring-count, district-end, ring-count-asks, district-head-asks, district-asks, district-answer}
+use Rattle.exchange.specs.DistrictRefusals.{GoodDistrictHead}
 use Rattle.exchange.proofs.Parts.{parted, Fine}
 
 -- ---- the head of a file, after a byte order and a type that are good

@@ -14,9 +14,9 @@ use Rattle.laws.proofs.Test.{and-iff}
 use Rattle.shape.specs.Bytes.{inOrder}
 use Rattle.shape.specs.Writing.{polygon, low}
 use Rattle.shape.specs.Reading.{order-at, end}
-use Rattle.exchange.specs.Districts.{parts-end, ring-count, polygons, district-head, district-file, total, rings, district-size}
-use Rattle.exchange.specs.DistrictRefusals.{Rings}
 use Rattle.shape.proofs.Lengths.{order-length, polygon-length}
+use Rattle.exchange.specs.Districts.{polygons, district-head, district-file, total, rings, district-size, parts-end, ring-count}
+use Rattle.exchange.specs.DistrictRefusals.{Rings}
 use Rattle.exchange.proofs.Lows.{low-parts, low-more, low-none}
 
 -- ---- byte orders

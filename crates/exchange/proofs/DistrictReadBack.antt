@@ -11,15 +11,15 @@ use Rattle.shape.specs.Answers.{gives, asked}
 use Rattle.shape.specs.Bytes.{inOrder, numberAt}
 use Rattle.shape.specs.Writing.{polygon, low}
 use Rattle.shape.specs.Reading.{order-at, length-at, end, polygon-asks, xs-at, ys-at}
-use Rattle.exchange.specs.Districts.{polygons, district-file, total, rings, parts-asks, parts-end, part-lengths, parts-xs, parts-ys, ring-count, district-end, district-answer, district-lengths, district-xs, district-ys}
 use Rattle.shape.specs.Refusals.{Low}
-use Rattle.exchange.specs.DistrictRefusals.{Rings}
 use Rattle.shape.proofs.Asking.{fault, ends, passes-all}
+use Rattle.shape.proofs.Lengths.{polygon-length}
+use Rattle.shape.proofs.Polygons.{ringed-answer}
+use Rattle.exchange.specs.Districts.{polygons, district-file, total, rings, parts-asks, parts-end, part-lengths, parts-xs, parts-ys, ring-count, district-end, district-answer, district-lengths, district-xs, district-ys}
+use Rattle.exchange.specs.DistrictRefusals.{Rings}
 use Rattle.exchange.proofs.Words.{word-at, word-past, word-room}
 use Rattle.exchange.proofs.Lows.{low-exactly}
-use Rattle.shape.proofs.Lengths.{polygon-length}
 use Rattle.exchange.proofs.Placed.{begun}
-use Rattle.shape.proofs.Polygons.{ringed-answer}
 use Rattle.exchange.proofs.ReadAfterWrite.{Writable, ring-back, xs-back, ys-back}
 use Rattle.exchange.proofs.PointsReadBack.{Orders}
 use Rattle.exchange.proofs.DistrictLaws.{part-orders, district-orders, low-split, rings-parts, rings-exactly}

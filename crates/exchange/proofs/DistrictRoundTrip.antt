@@ -7,10 +7,10 @@ use lib.ListN.{length, take, drop, getD, replicate, length-replicate, getD-repli
 use lib.Seq.{take-at}
 use Rattle.shape.specs.Answers.{Answer, gives, over}
 use Rattle.shape.specs.Reading.{order-at}
-use Rattle.exchange.specs.Districts.{district-file, district-size, district-writing, district, ring-count, district-answer, district-lengths, district-xs, district-ys}
 use Rattle.shape.specs.Refusals.{Low}
-use Rattle.exchange.specs.DistrictRefusals.{Divided, start}
 use Rattle.shape.proofs.Asking.{stands}
+use Rattle.exchange.specs.Districts.{district-file, district-size, district-writing, district, ring-count, district-answer, district-lengths, district-xs, district-ys}
+use Rattle.exchange.specs.DistrictRefusals.{Divided, start}
 use Rattle.exchange.proofs.Words.{Octets}
 use Rattle.exchange.proofs.Parts.{lengths-length}
 use Rattle.exchange.proofs.DistrictLaws.{district-orders, all-little, each-order, district-file-length}

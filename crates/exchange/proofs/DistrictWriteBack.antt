@@ -12,12 +12,12 @@ use Rattle.shape.specs.Answers.{gives}
 use Rattle.shape.specs.Bytes.{inOrder}
 use Rattle.shape.specs.Writing.{polygon, low}
 use Rattle.shape.specs.Reading.{order-at, length-at, end, polygon-asks, xs-at, ys-at}
-use Rattle.exchange.specs.Districts.{polygons, district-file, total, rings, parts-asks, parts-end, part-lengths, parts-xs, parts-ys, ring-count, district-end, district-answer, district-lengths, district-xs, district-ys}
 use Rattle.shape.proofs.Asking.{fault}
 use Rattle.shape.proofs.Heads.{passed-both}
+use Rattle.shape.proofs.Polygons.{Ringed, polygon-good}
+use Rattle.exchange.specs.Districts.{polygons, district-file, total, rings, parts-asks, parts-end, part-lengths, parts-xs, parts-ys, ring-count, district-end, district-answer, district-lengths, district-xs, district-ys}
 use Rattle.exchange.proofs.Words.{Octets, word-of}
 use Rattle.exchange.proofs.Lows.{low-none, low-exactly}
-use Rattle.shape.proofs.Polygons.{Ringed, polygon-good}
 use Rattle.exchange.proofs.Parts.{lengths-length, xs-length, ys-length}
 use Rattle.exchange.proofs.ReadAfterWrite.{Writable}
 use Rattle.exchange.proofs.WriteAfterRead.{x-long, polygon-there, ring-writable}

@@ -13,9 +13,9 @@ use Rattle.laws.proofs.Test.{and-iff}
 use Rattle.laws.proofs.Put.{put-next, put-rest}
 use Rattle.shape.specs.Answers.{must, Answer, asked}
 use Rattle.shape.specs.Writing.{polygon, low, size}
-use Rattle.exchange.specs.Districts.{polygons, district-head, district, total, rings, district-size, district-writing}
 use Rattle.shape.proofs.Asking.{passes-call, passes-same}
 use Rattle.shape.proofs.Lengths.{polygon-length}
+use Rattle.exchange.specs.Districts.{polygons, district-head, district, total, rings, district-size, district-writing}
 use Rattle.exchange.proofs.DistrictLaws.{rings-parts, district-head-length}
 
 -- ---- the lengths from the i-th on

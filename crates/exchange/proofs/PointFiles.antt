@@ -9,17 +9,17 @@ use borrow.Author.Tests.{eqb-true, not-false}
 use lib.Dec.{leb, eqb}
 use lib.ListN.{length}
 use Rattle.laws.proofs.Test.{or-iff}
-use Rattle.exchange.specs.declared.Surveyed.{Surveyed}
-use Rattle.exchange.specs.declared.Surveyed.the-variants.{Points}
 use Rattle.shape.specs.Answers.{Question, must, Answer, gives, refused, asked}
-use Rattle.exchange.specs.Replies.{surveyed}
 use Rattle.shape.specs.Reading.{run, coordinates, size-asks, order-at, type-asks}
-use Rattle.exchange.specs.Points.{point-count, points-end, point-asks, points-head-asks, points-asks, points-answer, within}
-use Rattle.exchange.specs.PointRefusals.{GoodPointsHead}
 use Rattle.shape.proofs.Asking.{fault, stops-above, passes-below, ends, passes-all, stops-first, refused-other, gives-other, given-is}
 use Rattle.shape.proofs.Scanned.{ran}
 use Rattle.shape.proofs.Heads.{passed-both, ran-there, coordinates-there}
 use Rattle.shape.proofs.Shapes.{typed, sized}
+use Rattle.exchange.specs.declared.Surveyed.{Surveyed}
+use Rattle.exchange.specs.declared.Surveyed.the-variants.{Points}
+use Rattle.exchange.specs.Replies.{surveyed}
+use Rattle.exchange.specs.Points.{point-count, points-end, point-asks, points-head-asks, points-asks, points-answer, within}
+use Rattle.exchange.specs.PointRefusals.{GoodPointsHead}
 
 -- ---- Points
 

@@ -9,13 +9,13 @@ use lib.Dec.{leb}
 use lib.ListN.{length}
 use Rattle.shape.specs.Answers.{Question, must, Answer, gives, refused, asked}
 use Rattle.shape.specs.Reading.{run, coordinate-asks, coordinates, size-asks, order-at, type-asks}
-use Rattle.exchange.specs.Points.{point-count, points-end, point-asks, points-head-asks, points-asks, points-answer}
 use Rattle.shape.specs.Refusals.{Good, Bad}
-use Rattle.exchange.specs.PointRefusals.{GoodPoint, GoodPointsHead, Pointed, PointFault, other-shape, bad-x, bad-y, PointsFault, other-size, bad-point, left-over, PointsTaken}
 use Rattle.shape.proofs.Asking.{fault, passes-all, stops-first, refused-other, ask-cases, part-cases}
 use Rattle.shape.proofs.Heads.{passed-one, passed-all, passed-both}
 use Rattle.shape.proofs.Runs.{nothing-left, Exact, coordinate-exact, steps, all-fine, fine-all, first-bad, bad-first}
 use Rattle.shape.proofs.Shapes.{typed, typed-passes, type-fault, type-refuses, sized-passes, size-fault, size-refuses}
+use Rattle.exchange.specs.Points.{point-count, points-end, point-asks, points-head-asks, points-asks, points-answer}
+use Rattle.exchange.specs.PointRefusals.{GoodPoint, GoodPointsHead, Pointed, PointFault, other-shape, bad-x, bad-y, PointsFault, other-size, bad-point, left-over, PointsTaken}
 use Rattle.exchange.proofs.PointFiles.{size-refused, size-passed, points-head, point-refused, points-passed, points-good, bytes-left, all-read}
 
 module _ (s : List ℕ) (at : ℕ) where

@@ -11,13 +11,13 @@ use Rattle.shape.specs.Bytes.{inOrder, numberAt}
 use Rattle.shape.specs.Coordinates.{gridOf, gridAt}
 use Rattle.shape.specs.Writing.{position, low}
 use Rattle.shape.specs.Reading.{run, row, coordinates, order-at, type-asks}
-use Rattle.exchange.specs.Points.{point, points, point-file, point-count, point-asks, point-x, point-y, points-answer, points-xs, points-ys}
 use Rattle.shape.specs.Refusals.{Low}
 use Rattle.shape.proofs.Asking.{fault, ends, passes-all}
 use Rattle.shape.proofs.Scanned.{ran, scanned, no-more}
+use Rattle.shape.proofs.Shapes.{typed-passes, sized-passes}
+use Rattle.exchange.specs.Points.{point, points, point-file, point-count, point-asks, point-x, point-y, points-answer, points-xs, points-ys}
 use Rattle.exchange.proofs.Words.{word-at, word-past, word-room}
 use Rattle.exchange.proofs.Lows.{low-parts, low-exactly}
-use Rattle.shape.proofs.Shapes.{typed-passes, sized-passes}
 use Rattle.exchange.proofs.PointFiles.{size-passed, points-passed, all-read}
 use Rattle.exchange.proofs.Placed.{Begun, begun, Placed, position-back, placed-scanned}
 

@@ -15,11 +15,11 @@ use Rattle.shape.specs.Writing.{position, positions, around, head, polygon, low
 use Rattle.shape.specs.Reading.{row, grids, order-at, length-at, xs-at, ys-at, polygon-asks, read-answer}
 use Rattle.shape.proofs.Scanned.{scanned, no-more}
 use Rattle.shape.proofs.Lengths.{around-length, around-same, head-length, polygon-length}
+use Rattle.shape.proofs.Heads.{Headed}
+use Rattle.shape.proofs.Polygons.{Ringed, ringed-answer, all-read}
 use Rattle.exchange.proofs.Words.{word-at, word-past}
 use Rattle.exchange.proofs.Placed.{Begun, begun, position-back, placed-scanned}
 use Rattle.exchange.proofs.Lows.{low-parts, low-around, around-back}
-use Rattle.shape.proofs.Heads.{Headed}
-use Rattle.shape.proofs.Polygons.{Ringed, ringed-answer, all-read}
 
 module _ (order : ℕ) where
   positions-back : (xs ys more s : List ℕ) (at : ℕ) → length xs ≡ length ys → low xs ≡ true → low ys ≡ true → drop at s ≡ positions order xs ys ++ more

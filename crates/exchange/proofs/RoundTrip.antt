@@ -10,9 +10,9 @@ use Rattle.shape.specs.Writing.{polygon, size, writing}
 use Rattle.shape.specs.Reading.{order-at, xs-at, ys-at, read-answer}
 use Rattle.shape.specs.Refusals.{Ring, Low}
 use Rattle.shape.proofs.Asking.{stands}
+use Rattle.shape.proofs.Lengths.{polygon-length}
 use Rattle.exchange.proofs.Words.{Octets}
 use Rattle.exchange.proofs.Lows.{low-exactly}
-use Rattle.shape.proofs.Lengths.{polygon-length}
 use Rattle.exchange.proofs.WriteExactly.{write-taken-exactly}
 use Rattle.exchange.proofs.ReadAfterWrite.{Writable, read-after-write}
 use Rattle.exchange.proofs.WriteAfterRead.{write-after-read}

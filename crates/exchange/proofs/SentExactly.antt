@@ -13,12 +13,12 @@ use Rattle.shape.specs.declared.Coordinate.{Coordinate}
 use Rattle.shape.specs.Answers.{Question, must, Answer, gives, refused, asked}
 use Rattle.shape.specs.Coordinates.{coordinateAt, refusalOf, whole}
 use Rattle.shape.specs.Reading.{order-at}
-use Rattle.exchange.specs.Points.{within, order-of, sent-answer, points-answer}
 use Rattle.shape.specs.Refusals.{Bad, cut, not-finite, off-grid, Typed, TypeFault, no-order, other-order, no-type, other-type, SizeFault, no-count, other-count, no-room}
-use Rattle.exchange.specs.PointRefusals.{PointFault, other-shape, bad-x, bad-y, PointsFault, other-size, bad-point, left-over, Sent}
 use Rattle.shape.proofs.Asking.{passes, passes-below, ends, ask-cases}
 use Rattle.shape.proofs.Heads.{passed-one, passed-all}
 use Rattle.shape.proofs.Runs.{nothing-left}
+use Rattle.exchange.specs.Points.{within, order-of, sent-answer, points-answer}
+use Rattle.exchange.specs.PointRefusals.{PointFault, other-shape, bad-x, bad-y, PointsFault, other-size, bad-point, left-over, Sent}
 use Rattle.exchange.proofs.PointsExactly.{points-refused-exactly}
 
 module _ (s : List ℕ) (place : ℕ) where

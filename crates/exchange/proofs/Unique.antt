@@ -10,17 +10,17 @@ use Rattle.shape.specs.declared.Written.{Written}
 use Rattle.shape.specs.declared.Written.the-variants.{Bytes, Refused}
 use Rattle.shape.specs.declared.Reading.{Reading}
 use Rattle.shape.specs.declared.Reading.the-variants.{Ring, Refused as Unread}
+use Rattle.shape.specs.Answers.{Answer, gives, refused, refusal, written, reading, over}
+use Rattle.shape.specs.Coordinates.{judgement}
+use Rattle.shape.specs.Writing.{polygon, writing}
+use Rattle.shape.specs.Reading.{read-answer, xs-at, ys-at}
 use Rattle.exchange.specs.declared.Surveyed.{Surveyed}
 use Rattle.exchange.specs.declared.Surveyed.the-variants.{Points, Refused as Unsurveyed}
 use Rattle.exchange.specs.declared.District.{District}
 use Rattle.exchange.specs.declared.District.the-variants.{Rings, Refused as Undivided}
 use Rattle.exchange.specs.declared.Judged.{Judged}
 use Rattle.exchange.specs.declared.Judged.the-variants.{As, Refused as Unjudged}
-use Rattle.shape.specs.Answers.{Answer, gives, refused, refusal, written, reading, over}
 use Rattle.exchange.specs.Replies.{surveyed, districted, judged}
-use Rattle.shape.specs.Coordinates.{judgement}
-use Rattle.shape.specs.Writing.{polygon, writing}
-use Rattle.shape.specs.Reading.{read-answer, xs-at, ys-at}
 use Rattle.exchange.specs.Points.{points-answer, points-xs, points-ys, sent-answer}
 use Rattle.exchange.specs.Districts.{district, district-writing, district-answer, district-lengths, district-xs, district-ys}
 

@@ -19,10 +19,10 @@ use Rattle.shape.specs.Reading.{row, grids, count, order-at, length-at, xs-at, 
 use Rattle.shape.proofs.Judgements.{encode-judge}
 use Rattle.shape.proofs.Scanned.{scanned, row-length}
 use Rattle.shape.proofs.Lengths.{polygon-length}
-use Rattle.exchange.proofs.Words.{Octets, word-lt, word-of}
-use Rattle.exchange.proofs.Lows.{low-more, low-none, low-front, grids-around}
 use Rattle.shape.proofs.Heads.{Headed, coordinate-passed, passed-one, passed-all, passed-both}
 use Rattle.shape.proofs.Polygons.{Ringed, polygon-good}
+use Rattle.exchange.proofs.Words.{Octets, word-lt, word-of}
+use Rattle.exchange.proofs.Lows.{low-more, low-none, low-front, grids-around}
 use Rattle.exchange.proofs.ReadAfterWrite.{Writable}
 
 on-the-grid : (c : Coordinate) → onGrid c ≡ true → c ≡ Grid (gridOf c)

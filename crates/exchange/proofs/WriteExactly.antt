@@ -16,8 +16,8 @@ use Rattle.shape.specs.Writing.{low, size, write-asks, writing}
 use Rattle.shape.specs.Refusals.{Ring, Low, WriteFault, no-ring, too-high, too-short, JudgeFault, other-order, cut}
 use Rattle.shape.proofs.Asking.{stops, stops-above, passes, passes-below, ends, ask-cases}
 use Rattle.shape.proofs.Heads.{passed-one, passed-all}
-use Rattle.exchange.proofs.Lows.{low-exactly}
 use Rattle.shape.proofs.Runs.{nothing-left}
+use Rattle.exchange.proofs.Lows.{low-exactly}
 
 -- ---- the writer
 

@@ -4,8 +4,8 @@ use mathlib.Core.Path.{_≡_}
 use mathlib.Core.Logic.{_⊎_}
 use mathlib.Core.List.{List}
 use lib.ListN.{length, getD}
-use Rattle.exchange.specs.Districts.{total, district-size, parts-end, part-lengths, ring-count, district-end}
 use Rattle.shape.specs.Refusals.{Typed, TypeFault, Closed, PolygonFault, Low}
+use Rattle.exchange.specs.Districts.{total, district-size, parts-end, part-lengths, ring-count, district-end}
 
 -- ---- the writer
 

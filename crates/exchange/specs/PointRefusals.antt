@@ -7,8 +7,8 @@ use lib.ListN.{length}
 use Rattle.shape.specs.declared.Coordinate.{Coordinate}
 use Rattle.shape.specs.Coordinates.{coordinateAt}
 use Rattle.shape.specs.Reading.{order-at}
-use Rattle.exchange.specs.Points.{point-count, points-end}
 use Rattle.shape.specs.Refusals.{Good, Bad, Typed, TypeFault, Roomy, SizeFault}
+use Rattle.exchange.specs.Points.{point-count, points-end}
 
 module _ (s : List ℕ) where
   -- a Point that begins at a place

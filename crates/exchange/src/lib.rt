@@ -1,5 +1,5 @@
 // Layer 3, polygon bytes: write a ring, read a ring, judge one coordinate; surveyors' point files; and district files. Document 01, 'Polygon
-// bytes', and document 02, 1/13 and 3/13.
+// bytes', and document 02, 1/13 and 3/13. Numbers, coordinates and one polygon at a place are shape's.
 // No call asks anything of its caller, and a refusal writes nothing.
 mod districts;
 mod points;
@@ -16,10 +16,10 @@ ghost use mathlib.Core.Path.{_≡_};
 ghost use Prim.Native.Nat.{min};
 ghost use lib.ListN.{length};
 ghost use Rattle.shape.specs.Answers.{written, reading, over};
-ghost use Rattle.exchange.specs.Replies.{surveyed, districted, judged};
 ghost use Rattle.shape.specs.Coordinates.{judgement};
 ghost use Rattle.shape.specs.Writing.{polygon, writing};
 ghost use Rattle.shape.specs.Reading.{read-answer, xs-at, ys-at};
+ghost use Rattle.exchange.specs.Replies.{surveyed, districted, judged};
 ghost use Rattle.exchange.specs.Points.{points-answer, points-xs, points-ys, sent-answer};
 ghost use Rattle.exchange.specs.Districts.{district, district-writing, district-answer, district-lengths, district-xs, district-ys};
 

@@ -1,4 +1,4 @@
--- Laws that the proofs of shape share, and the theorems about its definitions.
+-- Laws that the proofs of shape and of the layers above share.
 pub mod Octets
 pub mod Floats
 pub mod Judgements

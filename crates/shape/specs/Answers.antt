@@ -1,4 +1,4 @@
--- Document 01, 'Refusal numbers' and 'Polygon bytes', and document 02, 1/13 and 3/13: what is asked of an input, in order, what is answered, and what stands in lent memory
+-- Document 01, 'Refusal numbers' and 'Polygon bytes': what is asked of an input, in order, what is answered, and what stands in lent memory
 -- afterwards. Assumes nothing.
 use Prim.Native.Nat.{ℕ}
 use mathlib.Core.Bool.{Bool, cond}

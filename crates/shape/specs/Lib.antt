@@ -1,4 +1,4 @@
--- The definitions that the promises of shape cite.
+-- The definitions that the contracts of shape and the promises of exchange cite.
 pub mod Answers
 pub mod Bytes
 pub mod Coordinates

@@ -5,12 +5,12 @@ use native.Mathlib.Omega.{arith}
 use borrow.Author.Needs.{needs}
 use denote.Ref.{now}
 use lib.ListN.{length}
+use Rattle.shape.proofs.Asking.{stays}
+use Rattle.shape.proofs.Scanned.{filled-list}
 use Rattle.exchange.specs.Replies.{districted}
 use Rattle.exchange.specs.Districts.{total, parts-xs, parts-ys, part-lengths, ring-count, district-answer, district-lengths, district-xs, district-ys}
-use Rattle.shape.proofs.Asking.{stays}
 use Rattle.exchange.proofs.DistrictFiles.{count-is-read, few-places, all-fine}
 use Rattle.exchange.proofs.Parts.{total-fits, xs-length, ys-length, lengths-length}
-use Rattle.shape.proofs.Scanned.{filled-list}
 use Rattle.exchange.proofs.read_district.Statement.{statement}
 use Rattle.exchange.proofs.read_district.Tie as tie
 

@@ -5,10 +5,10 @@ use native.Mathlib.Omega.{arith}
 use borrow.Author.Needs.{needs}
 use denote.Ref.{now}
 use lib.ListN.{length}
-use Rattle.exchange.specs.Replies.{surveyed}
-use Rattle.exchange.specs.Points.{point-count, points-asks, point-x, point-y, points-xs, points-ys}
 use Rattle.shape.proofs.Asking.{stops-first, stays}
 use Rattle.shape.proofs.Scanned.{filled-row}
+use Rattle.exchange.specs.Replies.{surveyed}
+use Rattle.exchange.specs.Points.{point-count, points-asks, point-x, point-y, points-xs, points-ys}
 use Rattle.exchange.proofs.PointFiles.{found-answer, found-points, points-good, bytes-left, all-read}
 use Rattle.exchange.proofs.read_points.Statement.{statement}
 use Rattle.exchange.proofs.read_points.Tie as tie

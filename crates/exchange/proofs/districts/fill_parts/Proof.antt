@@ -10,8 +10,8 @@ use lib.Seq.{sets, length-sets}
 use Rattle.laws.proofs.Put.{put-rest}
 use Rattle.shape.specs.Answers.{asked}
 use Rattle.shape.specs.Reading.{length-at, polygon-asks, xs-at, ys-at}
-use Rattle.exchange.specs.Districts.{parts-xs, parts-ys, part-lengths}
 use Rattle.shape.proofs.Scanned.{put-none}
+use Rattle.exchange.specs.Districts.{parts-xs, parts-ys, part-lengths}
 use Rattle.exchange.proofs.Parts.{past, Fine, part-fine, part-ring, rest-fine, xs-step, ys-step, lengths-step, no-xs, no-ys, no-lengths}
 use Rattle.exchange.proofs.districts.fill_parts.Statement.{statement}
 use Rattle.exchange.proofs.districts.fill_parts.Tie as tie

@@ -4,8 +4,8 @@ use borrow.Author.Needs.{needs}
 use denote.Ref.{now}
 use Rattle.shape.specs.Answers.{faulty}
 use Rattle.shape.specs.Reading.{type-asks}
-use Rattle.exchange.specs.Districts.{ring-count}
 use Rattle.shape.proofs.Asking.{stops-first}
+use Rattle.exchange.specs.Districts.{ring-count}
 use Rattle.exchange.proofs.DistrictFiles.{no-count, other-count, no-places, head-read}
 use Rattle.exchange.proofs.districts.head.Statement.{statement}
 use Rattle.exchange.proofs.districts.head.Tie as tie

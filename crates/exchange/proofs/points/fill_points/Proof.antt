@@ -7,8 +7,8 @@ use lib.ListN.{length, set}
 use lib.Seq.{sets}
 use Rattle.shape.specs.Coordinates.{gridAt}
 use Rattle.shape.specs.Reading.{row, order-at}
-use Rattle.exchange.specs.Points.{point-x, point-y}
 use Rattle.shape.proofs.Scanned.{fill-step, fill-end}
+use Rattle.exchange.specs.Points.{point-x, point-y}
 use Rattle.exchange.proofs.points.fill_points.Statement.{statement}
 use Rattle.exchange.proofs.points.fill_points.Tie as tie
 

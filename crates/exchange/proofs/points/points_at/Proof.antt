@@ -3,9 +3,9 @@ use mathlib.Core.Path.{sym, ap, _∙_}
 use borrow.Author.Needs.{needs}
 use denote.Ref.{now}
 use Rattle.shape.specs.Answers.{faulty}
+use Rattle.shape.proofs.Asking.{stops-first}
 use Rattle.exchange.specs.Replies.{surveyed}
 use Rattle.exchange.specs.Points.{point-count, points-head-asks}
-use Rattle.shape.proofs.Asking.{stops-first}
 use Rattle.exchange.proofs.PointFiles.{points-head, point-refused, points-passed}
 use Rattle.exchange.proofs.points.points_at.Statement.{statement}
 use Rattle.exchange.proofs.points.points_at.Tie as tie

@@ -7,9 +7,9 @@ use denote.Ref.{now}
 use lib.ListN.{length}
 use Rattle.shape.specs.Answers.{gives, faulty}
 use Rattle.shape.specs.Reading.{order-at, type-asks}
-use Rattle.exchange.specs.Points.{point-count}
 use Rattle.shape.proofs.Asking.{stops-first}
 use Rattle.shape.proofs.Shapes.{typed, sized}
+use Rattle.exchange.specs.Points.{point-count}
 use Rattle.exchange.proofs.PointFiles.{size-refused, size-passed}
 use Rattle.exchange.proofs.points.points_head.Statement.{statement}
 use Rattle.exchange.proofs.points.points_head.Tie as tie

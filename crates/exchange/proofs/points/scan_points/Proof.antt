@@ -6,8 +6,8 @@ use borrow.Author.Needs.{needs}
 use denote.Ref.{now}
 use lib.ListN.{length}
 use Rattle.shape.specs.Answers.{faulty}
-use Rattle.exchange.specs.Points.{point-asks}
 use Rattle.shape.proofs.Scanned.{ran, stop, go-on, ran-end}
+use Rattle.exchange.specs.Points.{point-asks}
 use Rattle.exchange.proofs.PointFiles.{point-there}
 use Rattle.exchange.proofs.points.scan_points.Statement.{statement}
 use Rattle.exchange.proofs.points.scan_points.Tie as tie

@@ -1,4 +1,5 @@
 -- `shape::reader::type_fault` meets its contract: it asks its questions one by one.
+use Prim.Native.Nat.{_+_}
 use borrow.Author.Needs.{needs}
 use Rattle.shape.proofs.Asking.{asking, passes-below, stops-other}
 use Rattle.shape.proofs.reader.type_fault.Statement.{statement}
@@ -54,7 +55,7 @@ returns-4 c =
     passes-below _ _ _ _ _ _ (c .before .before .before .before .before .before .if1 .left)
     (passes-below _ 1 _ _ _ _ (c .before .before .before .before .if2 .left)
     (passes-below _ _ _ _ _ _ (c .before .before .before .if3 .left)
-    (stops-other _ _ _ _ _ _ (c .before .before .number4 .ensures .0) (c .before .if4 .taken) (c .faulted4 .ensures))))
+    (stops-other _ _ _ (c .before .before .before .before .before .before .before .before .args .at + 1) _ _ (c .before .before .number4 .ensures .0) (c .before .if4 .taken) (c .faulted4 .ensures))))
 
 returns-5 : tie.Need-returns-5
 returns-5 c = search asking depth 9
