@@ -1,9 +1,20 @@
 // The list printer: reads an office on standard input and prints a line per entry. Document 01, 'The printed list'.
 // One byte more than a text may have is read, so that a longer one is seen. It stops where the output takes no more.
 use listing::Parsed;
-use peel::Drawn;
 use peel::Listed;
+use peel::Tally;
+use peel::drawing::peel_all;
+use rim::ring::lay_ring;
+use rim::start::begin;
+use sheet::Checked;
 use sheet::Refusal;
+use sheet::sides::mates;
+ghost use mathlib.Core.Path.{_≡_};
+ghost use Prim.Native.Nat.{_≤_};
+ghost use lib.ListN.{length};
+ghost use Rattle.sheet.specs.Office.{office, rims};
+ghost use Rattle.sheet.specs.Acceptable.{Acceptable};
+ghost use Rattle.rim.specs.Code.{State};
 
 const OUTPUT: i32 = 1;
 
@@ -16,22 +27,6 @@ fn print_refusal(refusal: Refusal) -> bool {
     false
 }
 
-// The line of the entry with this least limit: its peels, area and ring are a draw's at that limit.
-fn print_entry(xs: &[u16], ys: &[u16], corners: &[u16], least: u32) -> bool {
-    let mut kept = [0u8; 2043];
-    let mut rim = [0u8; 1024];
-    let mut ring = [0u16; 1024];
-    let drawn = peel::draw(xs, ys, corners, least, &mut kept, &mut rim, &mut ring);
-    match drawn {
-        Drawn::Refused(refusal) => {
-            return print_refusal(refusal);
-        }
-        Drawn::Outline(tally) => {
-            return print_outline(least, tally.peeled, tally.area, peel::outline(&ring, tally));
-        }
-    }
-}
-
 fn print_outline(least: u32, peeled: u32, area: u32, ring: &[u16]) -> bool {
     let mut line = [0u8; 21567];
     let n = listing::print_line(least, peeled, area, ring, &mut line);
@@ -41,16 +36,71 @@ fn print_outline(least: u32, peeled: u32, area: u32, ring: &[u16]) -> bool {
     false
 }
 
-fn print_entries(xs: &[u16], ys: &[u16], corners: &[u16], least: &[u32], count: usize) {
+// The lines of the first entries. Least limits fall, so the marks go on from one entry's outline to the next.
+fn print_entries(
+    xs: &[u16],
+    ys: &[u16],
+    corners: &[u16],
+    mate: &[u16; 6129],
+    least: &[u32],
+    count: usize,
+    kept: &mut [u8],
+    rim: &mut [u8],
+    ring: &mut [u16],
+    begun: Tally,
+)
+    requires { ⌜ State (office (now xs) (now ys) (now corners)) (now mate) (now kept) (now rim) (begun .peeled) (begun .area) (begun .ring) × (length (now xs) ≤ length (now ring)) ⌝ }
+{
+    let mut tally = begun;
     let mut i = 0;
     while i < least.len() {
         if count <= i {
             return;
         }
-        if !print_entry(xs, ys, corners, least[i]) {
+        let limit = least[i];
+        i += 1;
+        let drawn = peel_all(xs, ys, corners, mate, kept, rim, limit, tally);
+        lay_ring(xs, ys, corners, mate, kept, rim, drawn, ring);
+        if !print_outline(limit, drawn.peeled, drawn.area, peel::outline(ring, drawn)) {
             return;
         }
-        i += 1;
+        tally = drawn;
+    }
+}
+
+// The same for an accepted office whose rim has `hull` sides.
+fn print_accepted(xs: &[u16], ys: &[u16], corners: &[u16], hull: usize, least: &[u32], count: usize)
+    requires { ⌜ Acceptable (office (now xs) (now ys) (now corners)) × (hull ≡ rims (office (now xs) (now ys) (now corners))) ⌝ }
+{
+    let mut kept = [0u8; 2043];
+    let mut rim = [0u8; 1024];
+    let mut ring = [0u16; 1024];
+    let mate = mates(corners);
+    let begun = begin(xs, ys, corners, &mate, hull, &mut kept, &mut rim);
+    print_entries(
+        xs,
+        ys,
+        corners,
+        &mate,
+        least,
+        count,
+        &mut kept,
+        &mut rim,
+        &mut ring,
+        begun,
+    );
+}
+
+// An office that was listed is accepted: the check says how long its rim is.
+fn print_listed(xs: &[u16], ys: &[u16], corners: &[u16], least: &[u32], count: usize) {
+    let checked = sheet::check(xs, ys, corners);
+    match checked {
+        Checked::Refused(refusal) => {
+            print_refusal(refusal);
+        }
+        Checked::Accepted(hull) => {
+            print_accepted(xs, ys, corners, hull, least, count);
+        }
     }
 }
 
@@ -77,7 +127,7 @@ fn print_list(xs: &[u16], ys: &[u16], corners: &[u16]) {
             print_refusal(refusal);
         }
         Listed::Entries(count) => {
-            print_entries(xs, ys, corners, &least, count);
+            print_listed(xs, ys, corners, &least, count);
         }
     }
 }

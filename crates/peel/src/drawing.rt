@@ -1,4 +1,4 @@
-// The outline of an acceptable office at a limit.
+// The outline of an acceptable office at a limit. For this crate and the list printer: no public call, so a `requires` may stand.
 use rim::Tally;
 use rim::answers::Step;
 use rim::ring::lay_ring;

@@ -1,5 +1,5 @@
 // Layer 2, peeling: draw, outline and list. Document 01, 'Peeling'.
-mod drawing;
+pub mod drawing;
 mod listing;
 mod room;
 

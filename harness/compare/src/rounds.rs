@@ -216,11 +216,8 @@ impl Comparison<'_> {
                 self.polygon(&points, &corners, limit, answer as usize - 1);
             }
         }
-        // The printer draws once for each entry: a large office takes seconds, so few of these are printed.
         let text = text(sheet, &mut self.random);
-        if sheet.xs.len() <= 80 || self.random.once_in(150) {
-            self.printed(&text);
-        }
+        self.printed(&text);
         if let Some(ring) = ring {
             let at = |list: &[u16]| ring.iter().map(|&p| list.get(p as usize).copied().unwrap_or(0)).collect::<Vec<u16>>();
             self.round_trip(&at(&sheet.xs), &at(&sheet.ys));

@@ -1,45 +1,36 @@
--- `outlines::print_entries` is safe and ends. Assumes nothing.
+-- `outlines::print_entries` is safe and ends: the marks stay on their way. Assumes nothing.
 use Prim.Native.Nat.{_-_, _≤_}
-use lib.ListN.{length}
+use mathlib.Core.Path.{_≡_, refl, _∙_}
+use native.Mathlib.Omega.{arith}
 use borrow.Author.Needs.{needs}
+use lib.ListN.{length}
+use Rattle.sheet.specs.Office.{office}
+use Rattle.rim.specs.Code.{State}
 use Rattle.outlines.proofs.print_entries.Statement.{statement}
 use Rattle.outlines.proofs.print_entries.Tie as tie
 
 abbrev Inv-loop : tie.InvT-loop
-Inv-loop xs ys corners least count i₀ i = i ≤ length least
+Inv-loop xs ys corners mate least count kept₀ rim₀ ring₀ tally₀ i₀ kept rim ring tally i =
+    (i ≤ length least) × (length kept ≡ length kept₀) × (length rim ≡ length rim₀) × (length ring ≡ length ring₀)
+    × State (office xs ys corners) mate kept rim (tally .peeled) (tally .area) (tally .ring)
 
 abbrev μ-loop : tie.MeasureT-loop
-μ-loop xs ys corners least count i₀ i = length least - i
+μ-loop xs ys corners mate least count kept₀ rim₀ ring₀ tally₀ i₀ kept rim ring tally i = length least - i
 
 loop-holds : tie.Need-loop-holds Inv-loop μ-loop
-loop-holds c = search needs
+loop-holds c = (omega arith, refl, refl, refl, c .before .before .before .before .before .before .before .pre .0)
 
-returns : tie.Need-returns Inv-loop μ-loop
-returns c = search needs
+same-length : tie.Need-same-length Inv-loop μ-loop
+same-length c = search needs
 
-mul-print-entry : tie.Need-mul-print-entry Inv-loop μ-loop
-mul-print-entry c = search needs
+lay-ring-requires : tie.Need-lay-ring-requires Inv-loop μ-loop
+lay-ring-requires c κs = (c .before .before .before .before .before .before .before .peel-all .ensures .state, omega (arith, c .before .before .before .before .before .before .before .before .before .before .before .before .before .loop .inv .3, c .before .before .before .before .before .before .before .before .before .before .before .before .before .before .before .before .before .before .before .before .before .pre .1))
 
-shared-slice-read-print-entry : tie.Need-shared-slice-read-print-entry Inv-loop μ-loop
-shared-slice-read-print-entry c = search needs
-
-print-entry-requires : tie.Need-print-entry-requires Inv-loop μ-loop
-print-entry-requires c κs = search needs
-
-returns-2 : tie.Need-returns-2 Inv-loop μ-loop
-returns-2 c = search needs
-
-add-i : tie.Need-add-i Inv-loop μ-loop
-add-i c = search needs
-
-loop-less : tie.Need-loop-less Inv-loop μ-loop
-loop-less c = search needs
+same-length-4 : tie.Need-same-length-4 Inv-loop μ-loop
+same-length-4 c = search needs
 
 loop-again : tie.Need-loop-again Inv-loop μ-loop
-loop-again c = search needs
-
-returns-3 : tie.Need-returns-3 Inv-loop μ-loop
-returns-3 c = search needs
+loop-again c = (search needs, search needs, search needs, search needs, c .before .before .before .before .before .before .before .before .before .before .before .before .before .before .peel-all .ensures .state)
 
 pub print-entries-spec : {M : Type 1} → statement M
 print-entries-spec =
@@ -48,12 +39,24 @@ print-entries-spec =
     Inv-loop
     μ-loop
     loop-holds
-    returns
-    mul-print-entry
-    shared-slice-read-print-entry
-    print-entry-requires
-    returns-2
-    add-i
-    loop-less
+    same-length
+    (λ c. search needs)
+    (λ c. search needs)
+    (λ c. search needs)
+    (λ c. search needs)
+    (λ c. search needs)
+    (λ c. search needs)
+    (λ c κs. search needs)
+    lay-ring-requires
+    (λ c κs. search needs)
+    (λ c κs. search needs)
+    same-length-4
+    (λ c. search needs)
+    (λ c. search needs)
+    (λ c. search needs)
+    (λ c. search needs)
     loop-again
-    returns-3)
+    (λ c. search needs)
+    (λ c. search needs)
+    (λ c. search needs)
+    (λ c. search needs))
