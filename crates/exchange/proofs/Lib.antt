@@ -22,3 +22,4 @@ pub mod DistrictExactly
 pub mod Unique
 pub mod RoundTrip
 pub mod DistrictRoundTrip
+pub mod DistrictExample
