@@ -154,7 +154,7 @@ put-district lengths xs ys out o part h p q =
 -- ---- rings that the writer takes
 
 -- at most 32 rings, which the lists hold and nothing besides; and the writer's answer is that of its last two questions
-pub record Ringed (lengths xs ys : List ℕ) : Type 0 where
+pub record Joined (lengths xs ys : List ℕ) : Type 0 where
   pub few : length lengths ≤ 32
   pub sized : rings lengths ≡ true
   pub all-xs : total lengths ≡ length xs
@@ -174,9 +174,9 @@ pub few-are : {r : Bool} (n : ℕ) → r ≡ (leb 1 n && leb n 32) → not r ≡
 few-are {r} n is e = leb-true n 32 (and-iff {a = leb 1 n} .0 (sym is ∙ not-false r e) .1)
 
 -- what the tests of the count, the sum and the lengths say: r, t and q are their answers
-pub ringed : {r q : Bool} {t : ℕ} (lengths xs ys : List ℕ) → r ≡ (leb 1 (length lengths) && leb (length lengths) 32) → not r ≡ false → t ≡ total lengths → t ≡ length xs
-    → q ≡ (eqb (length xs) (length ys) && rings lengths) → not q ≡ false → Ringed lengths xs ys
-ringed {r} {q} {t} lengths xs ys c ce s se d de =
+pub joined : {r q : Bool} {t : ℕ} (lengths xs ys : List ℕ) → r ≡ (leb 1 (length lengths) && leb (length lengths) 32) → not r ≡ false → t ≡ total lengths → t ≡ length xs
+    → q ≡ (eqb (length xs) (length ys) && rings lengths) → not q ≡ false → Joined lengths xs ys
+joined {r} {q} {t} lengths xs ys c ce s se d de =
     let all = and-iff .0 (sym d ∙ not-false q de) in
     let same = eqb-true (length xs) (length ys) (all .0) in
     record {

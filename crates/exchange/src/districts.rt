@@ -1,5 +1,6 @@
 // District files: the rings put one after another into an output, the scan that finds a MultiPolygon's first fault, and the filling of the lists
 // after it.
+// For this crate: no public call, so a `requires` may stand.
 ghost use mathlib.Core.Path.{_≡_};
 ghost use mathlib.Core.Bool.{_&&_};
 ghost use Prim.Native.Nat.{_+_, _*_, _≤_, min};

@@ -1,4 +1,5 @@
 // Surveyors' point files: the scan that finds a MultiPoint's first fault, and the filling of the lists after it.
+// For this crate: no public call, so a `requires` may stand.
 ghost use mathlib.Core.Path.{_≡_};
 ghost use mathlib.Core.Bool.{_||_};
 ghost use Prim.Native.Nat.{_+_, _*_, _≤_};

@@ -1,4 +1,5 @@
 // Numbers of two bytes.
+// For this crate: no public call, so a `requires` may stand.
 ghost use mathlib.Core.Path.{_≡_};
 ghost use mathlib.Core.List.{_++_};
 ghost use Prim.Native.Nat.{_+_, _*_, _≤_};

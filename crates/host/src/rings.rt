@@ -1,4 +1,5 @@
 // A ring of point numbers as a polygon.
+// For this crate: no public call, so a `requires` may stand.
 use exchange::Written;
 ghost use mathlib.Core.Path.{_≡_};
 ghost use mathlib.Core.List.{_++_};

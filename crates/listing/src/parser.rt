@@ -1,4 +1,5 @@
 // Numbers out of a text, and an office out of numbers.
+// For this crate: no public call, so a `requires` may stand.
 use crate::Parsed;
 use sheet::Refusal;
 ghost use mathlib.Core.Path.{_≡_};

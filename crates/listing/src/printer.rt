@@ -1,4 +1,5 @@
 // Text put into a lent buffer from a place on; each call answers the place after what it put.
+// For this crate: no public call, so a `requires` may stand.
 ghost use mathlib.Core.Path.{_≡_};
 ghost use mathlib.Core.List.{[], _∷_};
 ghost use Prim.Native.Nat.{_+_, _*_, _≤_, _<_};

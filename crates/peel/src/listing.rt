@@ -1,4 +1,5 @@
 // All outlines of an acceptable office.
+// For this crate: no public call, so a `requires` may stand.
 use rim::Tally;
 use rim::answers::Step;
 use rim::ring::lay_ring;

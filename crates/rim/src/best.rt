@@ -1,4 +1,5 @@
 // The side to peel next.
+// For this crate: no public call, so a `requires` may stand.
 use crate::answers::Best;
 use crate::answers::Ends;
 use crate::sides::is_rim;

@@ -1,4 +1,5 @@
 // The ring of an outline.
+// For the layer above: no public call, so a `requires` may stand.
 use crate::Tally;
 use crate::sides::is_rim;
 ghost use mathlib.Core.Path.{_≡_};

@@ -1,4 +1,5 @@
 // Sides of triangles: their lengths, ends and areas, and which are on the rim.
+// For this crate: no public call, so a `requires` may stand.
 use sheet::plane::at_corner;
 use sheet::plane::doubled;
 use sheet::plane::squared;

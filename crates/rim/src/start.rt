@@ -1,4 +1,5 @@
 // The marks and the tally before the first peel.
+// For the layer above: no public call, so a `requires` may stand.
 use crate::Tally;
 use crate::sides::area_of;
 use crate::sides::is_rim;

@@ -1,4 +1,5 @@
 // One step.
+// For the layer above: no public call, so a `requires` may stand.
 use crate::Tally;
 use crate::answers::Best;
 use crate::answers::Moved;

@@ -1,4 +1,5 @@
 // One coordinate and one position: floats and grid numbers.
+// For the layer above: no public call, so a `requires` may stand.
 ghost use mathlib.Core.Path.{_≡_};
 ghost use Prim.Native.Nat.{_+_, _≤_};
 ghost use lib.ListN.{length};

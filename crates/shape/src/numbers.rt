@@ -1,4 +1,5 @@
 // Numbers as bytes, in both byte orders.
+// For the layer above: no public call, so a `requires` may stand.
 ghost use mathlib.Core.Path.{_≡_};
 ghost use Prim.Native.Nat.{_+_, _*_, _≤_, _<_, _^_};
 ghost use lib.ListN.{length};

@@ -1,4 +1,5 @@
 // A polygon that begins at a place of a block: the scan that finds its first fault, and the filling of the lists after it.
+// For the layer above: no public call, so a `requires` may stand.
 ghost use mathlib.Core.Path.{_≡_};
 ghost use mathlib.Core.Bool.{_&&_};
 ghost use Prim.Native.Nat.{_+_, _*_, _≤_, _<_, min};

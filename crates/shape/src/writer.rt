@@ -1,4 +1,5 @@
 // A ring put into an output.
+// For the layer above: no public call, so a `requires` may stand.
 ghost use mathlib.Core.Path.{_≡_};
 ghost use mathlib.Core.Bool.{not, _&&_};
 ghost use mathlib.Core.List.{_++_};

@@ -10,7 +10,7 @@ use Rattle.shape.specs.Answers.{gives}
 use Rattle.shape.proofs.Asking.{stops-call, passes-call, stops-above, passes-below, stops-other, passes-same, ends, stays}
 use Rattle.shape.proofs.Floats.{holds}
 use Rattle.exchange.specs.Districts.{district, district-size}
-use Rattle.exchange.proofs.DistrictWriting.{ringed, few-are}
+use Rattle.exchange.proofs.DistrictWriting.{joined, few-are}
 use Rattle.exchange.proofs.DistrictLaws.{district-file-length}
 use Rattle.exchange.proofs.write_district.Statement.{statement}
 use Rattle.exchange.proofs.write_district.Tie as tie
@@ -57,31 +57,31 @@ refused-requires-4 c κs = search needs
 returns-4 : tie.Need-returns-4
 returns-4 c =
     let a = c .before .before .before .before .before .before .before .before .before .before .before .before .before .args in
-    let h = ringed (now (a .lengths)) (now (a .xs)) (now (a .ys)) (c .before .before .before .before .before .before .before .before .is-count .ensures) (c .before .before .before .before .before .before .before .if1 .left) (c .before .before .before .before .before .before .total .ensures) (c .before .before .before .before .before .if2 .left) (c .before .before .before .before .are-rings .ensures) (c .before .before .before .if3 .left) in
+    let h = joined (now (a .lengths)) (now (a .xs)) (now (a .ys)) (c .before .before .before .before .before .before .before .before .is-count .ensures) (c .before .before .before .before .before .before .before .if1 .left) (c .before .before .before .before .before .before .total .ensures) (c .before .before .before .before .before .if2 .left) (c .before .before .before .before .are-rings .ensures) (c .before .before .before .if3 .left) in
     (h .passed (length (now (a .out))) (stops-call _ 31 0 _ _ (c .before .before .are-low .ensures) (c .before .if4 .taken) (c .refused4 .ensures)), stays _ _ (district (now (a .lengths)) (now (a .xs)) (now (a .ys))) (now (a .out)) (c .refused4 .ensures))
 
 mul-size : tie.Need-mul-size
 mul-size c =
     let a = c .before .before .before .before .before .before .before .before .before .before .before .before .args in
-    let h = ringed (now (a .lengths)) (now (a .xs)) (now (a .ys)) (c .before .before .before .before .before .before .before .is-count .ensures) (c .before .before .before .before .before .before .if1 .left) (c .before .before .before .before .before .total .ensures) (c .before .before .before .before .if2 .left) (c .before .before .before .are-rings .ensures) (c .before .before .if3 .left) in
+    let h = joined (now (a .lengths)) (now (a .xs)) (now (a .ys)) (c .before .before .before .before .before .before .before .is-count .ensures) (c .before .before .before .before .before .before .if1 .left) (c .before .before .before .before .before .total .ensures) (c .before .before .before .before .if2 .left) (c .before .before .before .are-rings .ensures) (c .before .before .if3 .left) in
     omega (arith, h .few)
 
 mul-size-2 : tie.Need-mul-size-2
 mul-size-2 c =
     let a = c .before .before .before .before .before .before .before .before .before .before .before .before .args in
-    let h = ringed (now (a .lengths)) (now (a .xs)) (now (a .ys)) (c .before .before .before .before .before .before .before .is-count .ensures) (c .before .before .before .before .before .before .if1 .left) (c .before .before .before .before .before .total .ensures) (c .before .before .before .before .if2 .left) (c .before .before .before .are-rings .ensures) (c .before .before .if3 .left) in
+    let h = joined (now (a .lengths)) (now (a .xs)) (now (a .ys)) (c .before .before .before .before .before .before .before .is-count .ensures) (c .before .before .before .before .before .before .if1 .left) (c .before .before .before .before .before .total .ensures) (c .before .before .before .before .if2 .left) (c .before .before .before .are-rings .ensures) (c .before .before .if3 .left) in
     omega (arith, h .few, h .all-xs, h .most)
 
 add-size : tie.Need-add-size
 add-size c =
     let a = c .before .before .before .before .before .before .before .before .before .before .before .before .args in
-    let h = ringed (now (a .lengths)) (now (a .xs)) (now (a .ys)) (c .before .before .before .before .before .before .before .is-count .ensures) (c .before .before .before .before .before .before .if1 .left) (c .before .before .before .before .before .total .ensures) (c .before .before .before .before .if2 .left) (c .before .before .before .are-rings .ensures) (c .before .before .if3 .left) in
+    let h = joined (now (a .lengths)) (now (a .xs)) (now (a .ys)) (c .before .before .before .before .before .before .before .is-count .ensures) (c .before .before .before .before .before .before .if1 .left) (c .before .before .before .before .before .total .ensures) (c .before .before .before .before .if2 .left) (c .before .before .before .are-rings .ensures) (c .before .before .if3 .left) in
     omega (arith, h .few, h .all-xs, h .most)
 
 add-size-2 : tie.Need-add-size-2
 add-size-2 c =
     let a = c .before .before .before .before .before .before .before .before .before .before .before .before .args in
-    let h = ringed (now (a .lengths)) (now (a .xs)) (now (a .ys)) (c .before .before .before .before .before .before .before .is-count .ensures) (c .before .before .before .before .before .before .if1 .left) (c .before .before .before .before .before .total .ensures) (c .before .before .before .before .if2 .left) (c .before .before .before .are-rings .ensures) (c .before .before .if3 .left) in
+    let h = joined (now (a .lengths)) (now (a .xs)) (now (a .ys)) (c .before .before .before .before .before .before .before .is-count .ensures) (c .before .before .before .before .before .before .if1 .left) (c .before .before .before .before .before .total .ensures) (c .before .before .before .before .if2 .left) (c .before .before .before .are-rings .ensures) (c .before .before .if3 .left) in
     omega (arith, h .few, h .all-xs, h .most)
 
 refused-requires-5 : tie.Need-refused-requires-5
@@ -90,14 +90,14 @@ refused-requires-5 c κs = search needs
 returns-5 : tie.Need-returns-5
 returns-5 c =
     let a = c .before .before .before .before .before .before .before .before .before .before .before .before .before .before .args in
-    let h = ringed (now (a .lengths)) (now (a .xs)) (now (a .ys)) (c .before .before .before .before .before .before .before .before .before .is-count .ensures) (c .before .before .before .before .before .before .before .before .if1 .left) (c .before .before .before .before .before .before .before .total .ensures) (c .before .before .before .before .before .before .if2 .left) (c .before .before .before .before .before .are-rings .ensures) (c .before .before .before .before .if3 .left) in
+    let h = joined (now (a .lengths)) (now (a .xs)) (now (a .ys)) (c .before .before .before .before .before .before .before .before .before .is-count .ensures) (c .before .before .before .before .before .before .before .before .if1 .left) (c .before .before .before .before .before .before .before .total .ensures) (c .before .before .before .before .before .before .if2 .left) (c .before .before .before .before .before .are-rings .ensures) (c .before .before .before .before .if3 .left) in
     let f : length (now (a .out)) < district-size (now (a .lengths)) = omega (arith, c .before .if5 .taken, h .all-xs) in
     (h .passed (length (now (a .out))) (passes-call _ 31 0 _ _ (c .before .before .before .are-low .ensures) (c .before .before .if4 .left) (stops-above _ _ 32 0 _ _ f (c .refused5 .ensures))), stays _ _ (district (now (a .lengths)) (now (a .xs)) (now (a .ys))) (now (a .out)) (c .refused5 .ensures))
 
 put-district-requires : tie.Need-put-district-requires
 put-district-requires c κs =
     let a = c .before .before .before .before .before .before .before .before .before .before .before .before .before .before .args in
-    let h = ringed (now (a .lengths)) (now (a .xs)) (now (a .ys)) (c .before .before .before .before .before .before .before .before .before .is-count .ensures) (c .before .before .before .before .before .before .before .before .if1 .left) (c .before .before .before .before .before .before .before .total .ensures) (c .before .before .before .before .before .before .if2 .left) (c .before .before .before .before .before .are-rings .ensures) (c .before .before .before .before .if3 .left) in
+    let h = joined (now (a .lengths)) (now (a .xs)) (now (a .ys)) (c .before .before .before .before .before .before .before .before .before .is-count .ensures) (c .before .before .before .before .before .before .before .before .if1 .left) (c .before .before .before .before .before .before .before .total .ensures) (c .before .before .before .before .before .before .if2 .left) (c .before .before .before .before .before .are-rings .ensures) (c .before .before .before .before .if3 .left) in
     (h .few, (holds (h .sized), ((h .all-xs, h .all-ys), omega (arith, c .before .if5 .left, h .all-xs))))
 
 same-length : tie.Need-same-length
@@ -106,7 +106,7 @@ same-length c = search needs
 returns-6 : tie.Need-returns-6
 returns-6 c =
     let a = c .before .before .before .before .before .before .before .before .before .before .before .before .before .before .before .before .before .args in
-    let h = ringed (now (a .lengths)) (now (a .xs)) (now (a .ys)) (c .before .before .before .before .before .before .before .before .before .before .before .before .is-count .ensures) (c .before .before .before .before .before .before .before .before .before .before .before .if1 .left) (c .before .before .before .before .before .before .before .before .before .before .total .ensures) (c .before .before .before .before .before .before .before .before .before .if2 .left) (c .before .before .before .before .before .before .before .before .are-rings .ensures) (c .before .before .before .before .before .before .before .if3 .left) in
+    let h = joined (now (a .lengths)) (now (a .xs)) (now (a .ys)) (c .before .before .before .before .before .before .before .before .before .before .before .before .is-count .ensures) (c .before .before .before .before .before .before .before .before .before .before .before .if1 .left) (c .before .before .before .before .before .before .before .before .before .before .total .ensures) (c .before .before .before .before .before .before .before .before .before .if2 .left) (c .before .before .before .before .before .before .before .before .are-rings .ensures) (c .before .before .before .before .before .before .before .if3 .left) in
     let n = length (now (a .lengths)) in
     let size : 9 + (29 * n + 16 * length (now (a .xs))) ≡ district-size (now (a .lengths)) = omega (arith, h .all-xs) in
     let fits : district-size (now (a .lengths)) ≤ length (now (a .out)) = omega (arith, c .before .before .before .before .if5 .left, h .all-xs) in (
