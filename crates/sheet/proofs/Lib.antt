@@ -37,6 +37,9 @@ pub mod Share
 pub mod Inner
 pub mod Aim
 pub mod Tiled
+pub mod Cavity
+pub mod Reach
+pub mod Global
 pub mod Areas
 pub mod NoOverlap
 pub mod Rotate
