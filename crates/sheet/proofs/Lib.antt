@@ -40,6 +40,10 @@ pub mod Tiled
 pub mod Cavity
 pub mod Reach
 pub mod Global
+pub mod Convex
+pub mod Low
+pub mod Outermost
+pub mod AtOnce
 pub mod Areas
 pub mod NoOverlap
 pub mod Rotate

@@ -6,3 +6,4 @@ pub mod Renumbered
 pub mod Rules
 pub mod Code
 pub mod Answer
+pub mod Quick

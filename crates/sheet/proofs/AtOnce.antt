@@ -1,0 +1,56 @@
+-- An office that the refusals 1 to 10 and 12 pass is acceptable where its rim turns left and goes round once, and no circle holds the
+-- corner just beyond one of its sides: neither needs every point. Assumes nothing.
+use mathlib.Core.Path.{_≡_, sym}
+use mathlib.Core.Logic.{_⊎_, inl, inr}
+use Prim.Native.Nat.{ℕ, _<_}
+use lib.IntN.{ℤ, pos}
+use lib.Signed.{_<ℤ_}
+use Rattle.sheet.specs.Plane.{turn}
+use Rattle.sheet.specs.Office.{Office, points, sides, point, tail, head}
+use Rattle.sheet.specs.Acceptable.{Rim, Acceptable}
+use Rattle.sheet.specs.Quick.{Ringed, Half, Convex}
+use Rattle.sheet.proofs.Sign.{Pos, Non, opp, non-is, twice, either, non-less}
+use Rattle.sheet.proofs.Tiling.{Tiling}
+use Rattle.sheet.proofs.Tiled.{parted-of}
+use Rattle.sheet.proofs.Outermost.{none-right}
+use Rattle.sheet.proofs.Global.{delaunay, from-half}
+
+less-opp : (z : ℤ) → z <ℤ pos 0 → Pos (opp z)
+less-opp z l = step (either (opp z))
+  where
+    step : Pos (opp z) ⊎ Non (opp (opp z)) → Pos (opp z)
+    step (inl h) = h
+    step (inr h) = absurd (non-less (non-is (sym (twice z)) h) l)
+
+module _ {o : Office} (a : Ringed o) (c : Convex o) where
+  -- no point lies strictly right of a rim side
+  pub hull-of : (s p : ℕ) → s < sides o → Rim o s → p < points o → turn (point o (tail o s)) (point o (head o s)) (point o p) <ℤ pos 0 → ⊥
+  hull-of s p l w b h = none-right o a c s l w p b (less-opp _ h)
+
+  pub tiling-of : Tiling o
+  tiling-of = record {
+    whole = a .corners-bound .1;
+    distinct = a .distinct;
+    numbered = a .numbered;
+    left = a .left;
+    single = a .single;
+    used = a .used;
+    parted = parted-of o (a .single) (a .ring .1);
+    hull = hull-of;
+  }
+
+  pub quick : Half o → Acceptable o
+  quick half = record {
+    paired = a .paired;
+    points-bound = a .points-bound;
+    corners-bound = a .corners-bound;
+    small = a .small;
+    distinct = a .distinct;
+    numbered = a .numbered;
+    left = a .left;
+    single = a .single;
+    used = a .used;
+    empty = delaunay o tiling-of (from-half o tiling-of half);
+    ring = a .ring;
+    hull = hull-of;
+  }

@@ -1,0 +1,41 @@
+-- What makes an office acceptable by a look at neighbours alone, after the refusals 1 to 10 and 12. Assumes nothing.
+use mathlib.Core.Path.{_≡_}
+use Prim.Native.Nat.{ℕ, _+_, _*_, _%_, _<_, _≤_}
+use lib.IntN.{pos}
+use lib.Signed.{_<ℤ_}
+use lib.ListN.{length, getD}
+use Rattle.laws.specs.Round.{Round}
+use Rattle.sheet.specs.Plane.{Point, turn, circle}
+use Rattle.sheet.specs.Office.{Office, points, sides, point, tail, head, apex}
+use Rattle.sheet.specs.Acceptable.{Left, Single, Reverse, Rim, Along}
+
+-- what these refusals leave
+pub record Ringed (o : Office) : Type 0 where
+  pub paired : length (o .xs) ≡ length (o .ys)
+  pub points-bound : (3 ≤ points o) × (points o ≤ 1024)
+  pub corners-bound : (0 < sides o) × (sides o % 3 ≡ 0) × (sides o ≤ 6129)
+  pub small : (p : ℕ) → p < points o → (getD (o .xs) p 0 ≤ 16383) × (getD (o .ys) p 0 ≤ 16383)
+  pub distinct : (p q : ℕ) → p < points o → q < points o → getD (o .xs) p 0 ≡ getD (o .xs) q 0 → getD (o .ys) p 0 ≡ getD (o .ys) q 0 → p ≡ q
+  pub numbered : (s : ℕ) → s < sides o → tail o s < points o
+  pub left : Left o
+  pub single : Single o
+  pub used : (p : ℕ) → p < points o → (s : ℕ) × (s < sides o) × (tail o s ≡ p)
+  pub ring : (m : ℕ) × Round (Along o) m
+
+-- by x, then by y, for coordinates up to 16,383
+abbrev pub key : Point → ℕ
+key a = a .x * 16384 + a .y
+
+-- the rim goes on from side s with side r
+abbrev pub Onward : Office → ℕ → ℕ → Type 0
+Onward o s r = (s < sides o) × (r < sides o) × Rim o s × Rim o r × (head o s ≡ tail o r)
+
+-- the rim never turns right, and it goes round once: there is one point at the most whose key is below those before and after it
+pub record Convex (o : Office) : Type 0 where
+  pub bends : (s r : ℕ) → Onward o s r → turn (point o (tail o s)) (point o (head o s)) (point o (head o r)) <ℤ pos 0 → ⊥
+  pub lowest : ℕ
+  pub lows : (s r : ℕ) → Onward o s r → key (point o (head o s)) < key (point o (tail o s)) → key (point o (head o s)) < key (point o (head o r)) → head o s ≡ lowest
+
+-- no circle holds the third corner of the triangle beyond one of its sides; one side of each pair is asked
+abbrev pub Half : Office → Type 0
+Half o = (s r : ℕ) → s < r → r < sides o → Reverse o s r → pos 0 <ℤ circle (point o (tail o s)) (point o (head o s)) (point o (apex o s)) (point o (apex o r)) → ⊥
