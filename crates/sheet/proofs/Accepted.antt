@@ -25,10 +25,10 @@ a & b = (a, b)
 refused-not : (k r m : ℕ) → refused k r ≡ accepted m → ⊥
 refused-not k r m e = let z : _≡_ {A = ℕ} 0 1 = cc in omega arith
 
-first-iff : (m k n : ℕ) (test : ℕ → Bool) (other : Verdict) → (atFirst test n (refused k) other ≡ accepted m) ↔ (((i : ℕ) → i < n → test i ≡ false) × (other ≡ accepted m))
+pub first-iff : (m k n : ℕ) (test : ℕ → Bool) (other : Verdict) → (atFirst test n (refused k) other ≡ accepted m) ↔ (((i : ℕ) → i < n → test i ≡ false) × (other ≡ accepted m))
 first-iff m k n test other = passed-iff test n (refused k) other (accepted m) (λ r. refused-not k r m)
 
-whenever-iff : (m k : ℕ) (broken : Bool) (other : Verdict) → (whenever broken k other ≡ accepted m) ↔ ((broken ≡ false) × (other ≡ accepted m))
+pub whenever-iff : (m k : ℕ) (broken : Bool) (other : Verdict) → (whenever broken k other ≡ accepted m) ↔ ((broken ≡ false) × (other ≡ accepted m))
 whenever-iff m k true other = ((λ e. absurd (refused-not k 0 m e)), (λ h. absurd (true≢false (h .0))))
 whenever-iff m k false other = ((λ e. (refl, e)), (λ h. h .1))
 

@@ -2,9 +2,10 @@
 -- corner just beyond one of its sides: neither needs every point. Assumes nothing.
 use mathlib.Core.Path.{_≡_, sym}
 use mathlib.Core.Logic.{_⊎_, inl, inr}
-use Prim.Native.Nat.{ℕ, _<_}
+use Prim.Native.Nat.{ℕ, _%_, _<_, _≤_}
 use lib.IntN.{ℤ, pos}
 use lib.Signed.{_<ℤ_}
+use lib.ListN.{length}
 use Rattle.sheet.specs.Plane.{turn}
 use Rattle.sheet.specs.Office.{Office, points, sides, point, tail, head}
 use Rattle.sheet.specs.Acceptable.{Rim, Acceptable}
@@ -13,7 +14,7 @@ use Rattle.sheet.proofs.Sign.{Pos, Non, opp, non-is, twice, either, non
 use Rattle.sheet.proofs.Tiling.{Tiling}
 use Rattle.sheet.proofs.Tiled.{parted-of}
 use Rattle.sheet.proofs.Outermost.{none-right}
-use Rattle.sheet.proofs.Global.{delaunay, from-half}
+use Rattle.sheet.proofs.Global.{Global, delaunay, from-half}
 
 less-opp : (z : ℤ) → z <ℤ pos 0 → Pos (opp z)
 less-opp z l = step (either (opp z))
@@ -29,7 +30,7 @@ module _ {o : Office} (a : Ringed o) (c : Convex o) where
 
   pub tiling-of : Tiling o
   tiling-of = record {
-    whole = a .corners-bound .1;
+    whole = a .whole;
     distinct = a .distinct;
     numbered = a .numbered;
     left = a .left;
@@ -39,18 +40,22 @@ module _ {o : Office} (a : Ringed o) (c : Convex o) where
     hull = hull-of;
   }
 
-  pub quick : Half o → Acceptable o
-  quick half = record {
-    paired = a .paired;
-    points-bound = a .points-bound;
-    corners-bound = a .corners-bound;
-    small = a .small;
-    distinct = a .distinct;
-    numbered = a .numbered;
-    left = a .left;
-    single = a .single;
-    used = a .used;
-    empty = delaunay o tiling-of (from-half o tiling-of half);
-    ring = a .ring;
-    hull = hull-of;
-  }
+  module _ (half : Half o) where
+    pub empty-of : Global o
+    empty-of = delaunay o tiling-of (from-half o tiling-of half)
+
+    pub quick : length (o .xs) ≡ length (o .ys) → (3 ≤ points o) × (points o ≤ 1024) → (0 < sides o) × (sides o % 3 ≡ 0) × (sides o ≤ 6129) → Acceptable o
+    quick paired points-bound corners-bound = record {
+      paired = paired;
+      points-bound = points-bound;
+      corners-bound = corners-bound;
+      small = a .small;
+      distinct = a .distinct;
+      numbered = a .numbered;
+      left = a .left;
+      single = a .single;
+      used = a .used;
+      empty = empty-of;
+      ring = a .ring;
+      hull = hull-of;
+    }

@@ -44,6 +44,7 @@ pub mod Convex
 pub mod Low
 pub mod Outermost
 pub mod AtOnce
+pub mod Neat
 pub mod Areas
 pub mod NoOverlap
 pub mod Rotate

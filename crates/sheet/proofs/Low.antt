@@ -43,7 +43,7 @@ module _ (o : Office) (a : Ringed o) where
   key-single p q l b e = let (x, y) = same-key _ _ _ _ (a .small p l .1) (a .small q b .1) e in a .distinct p q l b x y
 
   pub head-below : (s : ℕ) → s < sides o → head o s < points o
-  head-below s l = a .numbered (next s) (next-below (sides o) s (a .corners-bound .1) l)
+  head-below s l = a .numbered (next s) (next-below (sides o) s (a .whole) l)
 
   module _ (c : Convex o) where
     -- begun where no later point is the lowest
@@ -57,7 +57,7 @@ module _ (o : Office) (a : Ringed o) where
       apart : (i : ℕ) → key (P i) ≡ key (P (suc i)) → ⊥
       apart i e =
           let (s, l, _, x, y) = goes i in
-          tail-not-head o (a .corners-bound .1) (a .left) s l
+          tail-not-head o (a .whole) (a .left) s l
           (x ∙ key-single (r .at i) (r .at (suc i)) (subst (λ p. p < points o) x (a .numbered s l)) (subst (λ p. p < points o) y (head-below s l)) e ∙ sym y)
 
       -- the sides of steps i and i + 1

@@ -157,8 +157,8 @@ module _ (o : Office) (a : Ringed o) (c : Convex o) where
           to = head-last o s ∙ x .1
 
           step : ((r : ℕ) × (r < sides o) × Reverse o (last s) r) ⊎ Rim o (last s) → (r : ℕ) × (r < sides o) × From r × Ahead s r
-          step (inl (r, b, y)) = (r, b, (b, y .0 ∙ to), subst (λ q. Pos (turn (point o p) (Q s) (point o q))) (sym (y .1)) (subst (λ q. Pos (turn (point o q) (Q s) (point o (apex o s)))) (x .1) (left-turn-of o (a .corners-bound .1) (a .left) s l)))
-          step (inr w) = absurd (no-rim p right (last s) (last-below (sides o) s (a .corners-bound .1) l) w to)
+          step (inl (r, b, y)) = (r, b, (b, y .0 ∙ to), subst (λ q. Pos (turn (point o p) (Q s) (point o q))) (sym (y .1)) (subst (λ q. Pos (turn (point o q) (Q s) (point o (apex o s)))) (x .1) (left-turn-of o (a .whole) (a .left) s l)))
+          step (inr w) = absurd (no-rim p right (last s) (last-below (sides o) s (a .whole) l) w to)
 
       no-star : p < points o → ⊥
       no-star l =
@@ -183,7 +183,7 @@ module _ (o : Office) (a : Ringed o) (c : Convex o) where
             in-front s b x t (above g) = g
             in-front s b x t (null z) =
                 let y = head-below o a s b in
-                absurd (tail-not-head o (a .corners-bound .1) (a .left) s b (x ∙ key-single o a p (head o s) l y (level-key A B (point o p) (point o (head o s)) (key-small p l) (key-small (head o s) y) z)))
+                absurd (tail-not-head o (a .whole) (a .left) s b (x ∙ key-single o a p (head o s) l y (level-key A B (point o p) (point o (head o s)) (key-small p l) (key-small (head o s) y) z)))
             in-front s b x t (under g) = differ (both-and (eqb (tail o s) p) (plus (opp (tilt p (head o s)))) (eqb-iff .1 x) (pos-plus g)) t
 
     pub none-right : (p : ℕ) → p < points o → Right p → ⊥

@@ -16,6 +16,10 @@ Left o = (t : ℕ) → t < triangles o → pos 0 <ℤ area o t
 abbrev pub Single : Office → Type 0
 Single o = (s r : ℕ) → s < sides o → r < sides o → tail o s ≡ tail o r → head o s ≡ head o r → s ≡ r
 
+-- each point is a corner
+abbrev pub Used : Office → Type 0
+Used o = (p : ℕ) → p < points o → (s : ℕ) × (s < sides o) × (tail o s ≡ p)
+
 -- side r runs back along side s
 abbrev pub Reverse : Office → ℕ → ℕ → Type 0
 Reverse o s r = (tail o r ≡ head o s) × (head o r ≡ tail o s)
@@ -38,7 +42,7 @@ pub record Acceptable (o : Office) : Type 0 where
   pub numbered : (s : ℕ) → s < sides o → tail o s < points o
   pub left : Left o
   pub single : Single o
-  pub used : (p : ℕ) → p < points o → (s : ℕ) × (s < sides o) × (tail o s ≡ p)
+  pub used : Used o
   pub empty : (t p : ℕ) → t < triangles o → p < points o
       → pos 0 <ℤ circle (point o (tail o (t * 3))) (point o (tail o (t * 3 + 1))) (point o (tail o (t * 3 + 2))) (point o p) → ⊥
   pub ring : (m : ℕ) × Round (Along o) m

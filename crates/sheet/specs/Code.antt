@@ -18,7 +18,7 @@ cloud xs ys = office xs ys []
 abbrev pub Numbered : List ℕ → ℕ → Type 0
 Numbered corners n = (s : ℕ) → s < length corners → getD corners s 0 < n
 
--- what the refusals 1 to 7 leave: every corner is a point of the grid
+-- what the refusals 1 to 7 leave: every corner is a point of the grid, and no point is another
 pub record Plotted (o : Office) : Type 0 where
   pub paired : length (o .xs) ≡ length (o .ys)
   pub few : points o ≤ 1024
@@ -26,6 +26,7 @@ pub record Plotted (o : Office) : Type 0 where
   pub whole : sides o % 3 ≡ 0
   pub short : sides o ≤ 6129
   pub small : (p : ℕ) → p < points o → Small (point o p)
+  pub distinct : (p q : ℕ) → p < points o → q < points o → getD (o .xs) p 0 ≡ getD (o .xs) q 0 → getD (o .ys) p 0 ≡ getD (o .ys) q 0 → p ≡ q
   pub numbered : (s : ℕ) → s < sides o → tail o s < points o
 
 -- the coordinates of point p

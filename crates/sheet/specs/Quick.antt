@@ -3,23 +3,21 @@ use mathlib.Core.Path.{_≡_}
 use Prim.Native.Nat.{ℕ, _+_, _*_, _%_, _<_, _≤_}
 use lib.IntN.{pos}
 use lib.Signed.{_<ℤ_}
-use lib.ListN.{length, getD}
+use lib.ListN.{getD}
 use Rattle.laws.specs.Round.{Round}
 use Rattle.sheet.specs.Plane.{Point, turn, circle}
-use Rattle.sheet.specs.Office.{Office, points, sides, point, tail, head, apex}
-use Rattle.sheet.specs.Acceptable.{Left, Single, Reverse, Rim, Along}
+use Rattle.sheet.specs.Office.{Office, points, sides, point, tail, head, apex, mate-of}
+use Rattle.sheet.specs.Acceptable.{Left, Single, Used, Reverse, Rim, Along}
 
--- what these refusals leave
+-- what these refusals leave, but for the lists' lengths
 pub record Ringed (o : Office) : Type 0 where
-  pub paired : length (o .xs) ≡ length (o .ys)
-  pub points-bound : (3 ≤ points o) × (points o ≤ 1024)
-  pub corners-bound : (0 < sides o) × (sides o % 3 ≡ 0) × (sides o ≤ 6129)
+  pub whole : sides o % 3 ≡ 0
   pub small : (p : ℕ) → p < points o → (getD (o .xs) p 0 ≤ 16383) × (getD (o .ys) p 0 ≤ 16383)
   pub distinct : (p q : ℕ) → p < points o → q < points o → getD (o .xs) p 0 ≡ getD (o .xs) q 0 → getD (o .ys) p 0 ≡ getD (o .ys) q 0 → p ≡ q
   pub numbered : (s : ℕ) → s < sides o → tail o s < points o
   pub left : Left o
   pub single : Single o
-  pub used : (p : ℕ) → p < points o → (s : ℕ) × (s < sides o) × (tail o s ≡ p)
+  pub used : Used o
   pub ring : (m : ℕ) × Round (Along o) m
 
 -- by x, then by y, for coordinates up to 16,383
@@ -39,3 +37,27 @@ pub record Convex (o : Office) : Type 0 where
 -- no circle holds the third corner of the triangle beyond one of its sides; one side of each pair is asked
 abbrev pub Half : Office → Type 0
 Half o = (s r : ℕ) → s < r → r < sides o → Reverse o s r → pos 0 <ℤ circle (point o (tail o s)) (point o (head o s)) (point o (apex o s)) (point o (apex o r)) → ⊥
+
+-- what the code asks of side s: of its mate, and of the rim side that goes on from it
+abbrev pub Clear : Office → ℕ → Type 0
+Clear o s = s < mate-of (o .corners) s → mate-of (o .corners) s < sides o
+    → pos 0 <ℤ circle (point o (tail o s)) (point o (head o s)) (point o (apex o s)) (point o (apex o (mate-of (o .corners) s))) → ⊥
+
+pub record Goes (o : Office) (lowest s : ℕ) : Type 0 where
+  pub side : ℕ
+  pub onward : Onward o s side
+  pub bends : turn (point o (tail o s)) (point o (head o s)) (point o (head o side)) <ℤ pos 0 → ⊥
+  pub low : key (point o (head o s)) < key (point o (tail o s)) → key (point o (head o s)) < key (point o (head o side)) → head o s ≡ lowest
+
+abbrev pub Smooth : Office → ℕ → ℕ → Type 0
+Smooth o lowest s = Rim o s → Goes o lowest s
+
+abbrev pub AllClear : Office → Type 0
+AllClear o = (s : ℕ) → s < sides o → Clear o s
+
+abbrev pub AllSmooth : Office → Type 0
+AllSmooth o = (lowest : ℕ) × ((s : ℕ) → s < sides o → Smooth o lowest s)
+
+pub record Neat (o : Office) : Type 0 where
+  pub clear : AllClear o
+  pub smooth : AllSmooth o

@@ -3,6 +3,7 @@
 pub mod circles;
 pub mod plane;
 pub mod points;
+mod quick;
 pub mod ring;
 pub mod sides;
 mod spots;
@@ -11,6 +12,7 @@ pub mod triangles;
 use circles::first_invaded;
 use points::first_again;
 use points::first_large;
+use quick::is_neat;
 use ring::first_outer;
 use ring::is_one_ring;
 use ring::rim_length;
@@ -27,7 +29,7 @@ ghost use Prim.Native.Nat.{_%_, _<_, _≤_};
 ghost use Rattle.sheet.specs.Office.{office};
 ghost use Rattle.sheet.specs.Verdict as Verdict;
 ghost use Rattle.sheet.specs.Verdict.{verdict, points-verdict, areas-verdict, sides-verdict, rim-verdict};
-ghost use Rattle.sheet.specs.Acceptable.{Left, Single};
+ghost use Rattle.sheet.specs.Acceptable.{Left, Single, Used};
 ghost use Rattle.sheet.specs.Code.{Plotted};
 ghost use Rattle.sheet.specs.Answer.{answer};
 
@@ -129,18 +131,22 @@ fn check_sides(xs: &[u16], ys: &[u16], corners: &[u16]) -> Checked
     check_rim(xs, ys, corners)
 }
 
-// Refusals 11 to 13, and acceptance.
+// Refusals 11 to 13, and acceptance: at once where a look at neighbours is enough.
 fn check_rim(xs: &[u16], ys: &[u16], corners: &[u16]) -> Checked
-    requires { ⌜ Plotted (office (now xs) (now ys) (now corners)) × Single (office (now xs) (now ys) (now corners)) ⌝ }
+    requires { ⌜ Plotted (office (now xs) (now ys) (now corners)) × Left (office (now xs) (now ys) (now corners)) × Single (office (now xs) (now ys) (now corners)) × Used (office (now xs) (now ys) (now corners)) ⌝ }
     ensures { λ r. ⌜ answer r ≡ rim-verdict (office (now (xs .entry)) (now (ys .entry)) (now (corners .entry))) ⌝ }
 {
+    let mate = mates(corners);
+    let rim = rim_length(corners, &mate);
+    let one = is_one_ring(corners, &mate, rim);
+    let neat = is_neat(xs, ys, corners, &mate);
+    if one & neat {
+        return Checked::Accepted(rim);
+    }
     let invaded = first_invaded(xs, ys, corners);
     if invaded < corners.len() / 3 {
         return refused(11, invaded);
     }
-    let mate = mates(corners);
-    let rim = rim_length(corners, &mate);
-    let one = is_one_ring(corners, &mate, rim);
     if !one {
         return refused(12, 0);
     }

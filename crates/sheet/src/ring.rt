@@ -13,7 +13,7 @@ ghost use Rattle.sheet.specs.Office.{office, bare, tail, rim, rims, star
 ghost use Rattle.sheet.specs.Code.{Plotted, Mated, Numbered};
 
 // Whether side s is on the rim.
-fn is_rim(corners: &[u16], mate: &[u16; 6129], s: usize) -> bool
+pub fn is_rim(corners: &[u16], mate: &[u16; 6129], s: usize) -> bool
     requires { ⌜ Mated (now corners) (now mate) × (length (now corners) ≤ 6129) × (s < length (now corners)) ⌝ }
     ensures { λ b. ⌜ b ≡ rim (bare (now (corners .entry))) s ⌝ }
 {

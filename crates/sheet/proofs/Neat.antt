@@ -1,0 +1,121 @@
+-- What the quick tests answer for: an office that passes them and the refusals 1 to 10 and 12 is accepted. Assumes nothing.
+use mathlib.Core.Path.{_≡_, refl, sym, subst, _∙_}
+use mathlib.Core.Bool.{Bool, true, false, not, _&&_, _||_}
+use mathlib.Core.Logic.{inl, inr}
+use Prim.Native.Nat.{ℕ, _+_, _*_, _<_, _≤_}
+use native.Mathlib.Decide.{ℕ-discrete, decLt}
+use native.Mathlib.Omega.{arith}
+use lib.Dec.{ltb, eqb}
+use lib.IntN.{pos}
+use lib.Signed.{_<ℤ_, ltZ}
+use Rattle.laws.specs.Round.{Round}
+use Rattle.laws.proofs.Test.{plain, first-of, not-iff, neither-iff, and-iff, false-iff, ltb-iff, eqb-iff, less-iff}
+use Rattle.sheet.specs.Plane.{spot, turn, circle}
+use Rattle.sheet.specs.Office.{Office, points, sides, triangles, point, tail, head, apex, reverse, rim, mate-of, one-ring, rims}
+use Rattle.sheet.specs.Acceptable.{Left, Single, Used, Rim, Along}
+use Rattle.sheet.specs.Verdict.{Verdict, accepted, rim-verdict}
+use Rattle.sheet.specs.Code.{Plotted, At}
+use Rattle.sheet.specs.Quick.{Ringed, Half, Convex, Clear, AllClear, Smooth, AllSmooth, Neat, Goes, Onward, key}
+use Rattle.sheet.proofs.AtPoint.{spot-at}
+use Rattle.sheet.proofs.Rim.{rim-iff}
+use Rattle.sheet.proofs.Cancel.{differ}
+use Rattle.sheet.proofs.Tiled.{parted-of}
+use Rattle.sheet.proofs.OneRing.{one-ring-iff}
+use Rattle.sheet.proofs.Accepted.{first-iff, whenever-iff}
+use Rattle.sheet.proofs.AtOnce.{hull-of, empty-of}
+
+-- ---- what the tests of one side answer for
+key-below : {o : Office} {p q ax ay bx by : ℕ} → At o p ax ay → At o q bx by → key (point o p) < key (point o q) → ax * 16384 + ay < bx * 16384 + by
+key-below a b l = omega (arith, a .across, a .up, b .across, b .up)
+
+module _ (o : Office) (s r : ℕ) where
+  pub clear-at : {ax ay bx by cx cy dx dy : ℕ} {w : Bool} → r ≡ mate-of (o .corners) s
+      → At o (tail o s) ax ay → At o (head o s) bx by → At o (apex o s) cx cy → At o (apex o r) dx dy
+      → w ≡ ltZ (pos 0) (circle (spot ax ay) (spot bx by) (spot cx cy) (spot dx dy)) → w ≡ false → Clear o s
+  clear-at m a b c d e f _ _ h =
+      let i = spot-at a in
+      let j = spot-at b in
+      let l = spot-at c in
+      let n = spot-at d in
+      let g : pos 0 <ℤ circle (point o (tail o s)) (point o (head o s)) (point o (apex o s)) (point o (apex o r)) = subst (λ q. pos 0 <ℤ circle (point o (tail o s)) (point o (head o s)) (point o (apex o s)) (point o (apex o q))) (sym m) h in
+      let t = less-iff .1 g in
+      differ {b = true} refl (cc)
+
+  pub smooth-at : {ax ay bx by cx cy p lowest : ℕ} {w : Bool} → s < sides o → r < sides o → rim o r ≡ true → p ≡ head o s → head o s ≡ tail o r
+      → At o (tail o s) ax ay → At o (head o s) bx by → At o (head o r) cx cy
+      → w ≡ (ltZ (turn (spot ax ay) (spot bx by) (spot cx cy)) (pos 0) || (ltb (bx * 16384 + by) (ax * 16384 + ay) && ltb (bx * 16384 + by) (cx * 16384 + cy) && not (eqb p lowest)))
+      → w ≡ false → Smooth o lowest s
+  smooth-at {ax} {ay} {bx} {by} {cx} {cy} {p} {lowest} ls lr z q y a b c e f x =
+      let i = spot-at a in
+      let j = spot-at b in
+      let l = spot-at c in
+      let g = neither-iff {a = ltZ (turn (spot ax ay) (spot bx by) (spot cx cy)) (pos 0)} .0 (sym e ∙ f) in
+      record {
+        side = r;
+        onward = (ls, lr, x, rim-iff o r .0 z, y);
+        bends = λ h. let t = less-iff .1 h in differ {b = true} refl (cc);
+        low = λ u v. elim (ℕ-discrete p lowest) [
+          | yes n ↦ sym q ∙ n
+          | no n ↦ absurd (false-iff .0 (g .1) (and-iff .1 (and-iff .1 (ltb-iff .1 (key-below b a u), ltb-iff .1 (key-below b c v)), not-iff .1 (λ t. n (eqb-iff .0 t)))))
+        ];
+      }
+
+pub not-rim : (o : Office) (s : ℕ) {bared : Bool} {A : Type 0} → bared ≡ rim o s → not bared ≡ true → Rim o s → A
+not-rim o s e f x = absurd (not-iff .0 f (e ∙ rim-iff o s .1 x))
+
+-- ---- each of them so far
+pub record Passed (P : ℕ → Type 0) (n i : ℕ) : Type 0 where
+  pub within : i ≤ n
+  pub so-far : (k : ℕ) → k < i → P k
+
+pub passed-none : {P : ℕ → Type 0} {n : ℕ} → Passed P n 0
+passed-none = record { within = omega arith; so-far = λ k l. absurd (omega arith) }
+
+pub passed-one : {P : ℕ → Type 0} {n i : ℕ} → Passed P n i → i < n → P i → Passed P n (i + 1)
+passed-one {P} {n} {i} h l x = record { within = omega arith; so-far = λ k b. elim (decLt k i) [ yes y ↦ h .so-far k y | no f ↦ (let e : i ≡ k = omega arith in subst P e x) ] }
+
+pub passed-all : {P : ℕ → Type 0} {n i : ℕ} → Passed P n i → n ≤ i → (k : ℕ) → k < n → P k
+passed-all h l k b = h .so-far k (omega arith)
+
+-- ---- all of them
+-- a side's mate is the one side that runs back along it
+half-of : (o : Office) → Single o → AllClear o → Half o
+half-of o single clear s r l b w h =
+    let (m, e) = first-of (reverse o s) (sides o) r b (simp plain w) in
+    let t = simp plain at e in
+    let same : mate-of (o .corners) s ≡ r = single _ r m b (t .0 ∙ sym (w .0)) (t .1 ∙ sym (w .1)) in
+    clear s (omega arith) (omega arith) (omega arith) (subst (λ q. pos 0 <ℤ circle (point o (tail o s)) (point o (head o s)) (point o (apex o s)) (point o (apex o q))) (sym same) h)
+
+-- one rim side goes on from another
+convex-of : (o : Office) → Single o → {m : ℕ} → Round (Along o) m → AllSmooth o → Convex o
+convex-of o single ring (lowest, smooth) = record {
+  bends = λ s r w h. let g = smooth s (w .0) (w .2) in g .bends (subst (λ q. turn (point o (tail o s)) (point o (head o s)) (point o (head o q)) <ℤ pos 0) (same s r w g) h);
+  lowest = lowest;
+  lows = λ s r w x y. let g = smooth s (w .0) (w .2) in g .low x (subst (λ q. key (point o (head o s)) < key (point o (head o q))) (same s r w g) y);
+}
+  where
+    same : (s r : ℕ) → Onward o s r → (g : Goes o lowest s) → r ≡ g .side
+    same s r w g = parted-of o single ring r (g .side) (w .1) (g .onward .1) (w .3) (g .onward .3) (sym (w .4) ∙ g .onward .4)
+
+module _ (o : Office) (p : Plotted o) (left : Left o) (single : Single o) (used : Used o) where
+  ringed : one-ring o ≡ true → Ringed o
+  ringed one = record {
+    whole = p .whole;
+    small = p .small;
+    distinct = p .distinct;
+    numbered = p .numbered;
+    left = left;
+    single = single;
+    used = used;
+    ring = one-ring-iff o (p .whole) single .0 one;
+  }
+
+  -- the refusals 11 and 13 pass such an office
+  pub neat-accepted : one-ring o ≡ true → Neat o → rim-verdict o ≡ accepted (rims o)
+  neat-accepted one neat =
+      let a = ringed one in
+      let c = convex-of o single (a .ring .1) (neat .smooth) in
+      simp (whenever-iff, first-iff, plain) (
+        (λ t b (q, m, h). empty-of a c (half-of o single (neat .clear)) t q b m h),
+        ((simp plain at one), ((λ q b (s, m, (w, h)). hull-of a c s q m (λ x y z. w (x, y, z)) b h), refl)),
+      )

@@ -1,0 +1,194 @@
+// Acceptance by a look at neighbours alone: where these hold, no point needs a test against every circle and every rim side. No public call.
+use super::circles::circle_through;
+use super::circles::height_of;
+use super::circles::is_inside;
+use super::plane::turn;
+use super::plane::wide;
+use super::ring::is_rim;
+use super::spots::corner_at;
+ghost use mathlib.Core.Path.{_≡_};
+ghost use mathlib.Core.Bool.{true, false, not, _&&_, _||_};
+ghost use Prim.Native.Nat.{_+_, _*_, _%_, _<_, _≤_};
+ghost use lib.Dec.{ltb};
+ghost use lib.IntN.{pos};
+ghost use lib.ListN.{length};
+ghost use lib.Signed.{ltZ};
+ghost use Rattle.sheet.specs.Plane.{spot, Small};
+ghost use Rattle.sheet.specs.Plane as plane;
+ghost use Rattle.sheet.specs.Office.{office};
+ghost use Rattle.sheet.specs.Code.{Plotted, Mated, Numbered};
+ghost use Rattle.sheet.specs.Quick.{Clear, AllClear, Smooth, AllSmooth, Neat};
+
+// Whether d lies strictly inside the circle through a b c.
+fn holds(ax: u16, ay: u16, bx: u16, by: u16, cx: u16, cy: u16, dx: u16, dy: u16) -> bool
+    requires { ⌜ Small (spot ax ay) × Small (spot bx by) × Small (spot cx cy) × Small (spot dx dy) ⌝ }
+    ensures { λ b. ⌜ b ≡ ltZ (pos 0) (plane.circle (spot ax ay) (spot bx by) (spot cx cy) (spot dx dy)) ⌝ }
+{
+    let circle = circle_through(ax, ay, bx, by, cx, cy);
+    let height = height_of(dx, dy);
+    is_inside(circle, dx, dy, height)
+}
+
+// Whether the circle of side s's triangle holds the third corner beyond s, asked at the lower side of a pair.
+fn is_held(xs: &[u16], ys: &[u16], corners: &[u16], mate: &[u16; 6129], s: usize) -> bool
+    requires { ⌜ Plotted (office (now xs) (now ys) (now corners)) × Mated (now corners) (now mate) × (s < length (now corners)) ⌝ }
+    ensures { λ b. ⌜ (b ≡ false → Clear (office (now (xs .entry)) (now (ys .entry)) (now (corners .entry))) s) ⌝ }
+{
+    let r = wide(mate[s]);
+    if r <= s {
+        return false;
+    }
+    if corners.len() <= r {
+        return false;
+    }
+    let a = corner_at(xs, ys, corners, s);
+    let b = corner_at(xs, ys, corners, s / 3 * 3 + (s + 1) % 3);
+    let c = corner_at(xs, ys, corners, s / 3 * 3 + (s + 2) % 3);
+    let d = corner_at(xs, ys, corners, r / 3 * 3 + (r + 2) % 3);
+    holds(a.x, a.y, b.x, b.y, c.x, c.y, d.x, d.y)
+}
+
+// Whether no circle holds the corner just beyond one of its sides.
+fn is_local(xs: &[u16], ys: &[u16], corners: &[u16], mate: &[u16; 6129]) -> bool
+    requires { ⌜ Plotted (office (now xs) (now ys) (now corners)) × Mated (now corners) (now mate) ⌝ }
+    ensures { λ b. ⌜ (b ≡ true → AllClear (office (now (xs .entry)) (now (ys .entry)) (now (corners .entry)))) ⌝ }
+{
+    let mut s = 0;
+    while s < corners.len() {
+        if is_held(xs, ys, corners, mate, s) {
+            return false;
+        }
+        s += 1;
+    }
+    true
+}
+
+// By x, then by y, for coordinates up to 16,383.
+fn key(x: u16, y: u16) -> u32
+    ensures { λ r. ⌜ r ≡ x * 16384 + y ⌝ }
+{
+    x as u32 * 16384 + y as u32
+}
+
+fn either(b: bool, x: usize, y: usize) -> usize {
+    if b { x } else { y }
+}
+
+fn either_key(b: bool, x: u32, y: u32) -> u32 {
+    if b { x } else { y }
+}
+
+fn either_side(b: bool, x: u16, y: u16) -> u16 {
+    if b { x } else { y }
+}
+
+// The point of the lowest key. What is proved of the tests below holds for any point.
+fn lowest_point(xs: &[u16], ys: &[u16]) -> usize
+    requires { ⌜ length (now xs) ≡ length (now ys) ⌝ }
+{
+    let mut best: usize = 0;
+    let mut least: u32 = 4294967295;
+    let mut p = 0;
+    while p < xs.len() {
+        let here = key(xs[p], ys[p]);
+        let lower = here < least;
+        best = either(lower, p, best);
+        least = either_key(lower, here, least);
+        p += 1;
+    }
+    best
+}
+
+// For each point the rim side from it. What is proved of the tests below holds for any list: a side that is none is seen there.
+fn rim_sides(corners: &[u16], mate: &[u16; 6129]) -> [u16; 1024]
+    requires { ⌜ Mated (now corners) (now mate) × (length (now corners) ≤ 6129) × Numbered (now corners) 1024 ⌝ }
+{
+    let mut list = [0u16; 1024];
+    let mut s = 0;
+    while s < corners.len() {
+        let p = wide(corners[s]);
+        let old = list[p];
+        list[p] = either_side(is_rim(corners, mate, s), s as u16, old);
+        s += 1;
+    }
+    list
+}
+
+// Whether the way a b c turns right, or b has the lowest key of the three and is not the point that may.
+fn is_wrong(ax: u16, ay: u16, bx: u16, by: u16, cx: u16, cy: u16, lowest: bool) -> bool
+    requires { ⌜ Small (spot ax ay) × Small (spot bx by) × Small (spot cx cy) ⌝ }
+    ensures { λ b. ⌜ b ≡ (ltZ (plane.turn (spot ax ay) (spot bx by) (spot cx cy)) (pos 0) || (ltb (bx * 16384 + by) (ax * 16384 + ay) && ltb (bx * 16384 + by) (cx * 16384 + cy) && not lowest)) ⌝ }
+{
+    let a = key(ax, ay);
+    let b = key(bx, by);
+    let c = key(cx, cy);
+    (turn(ax, ay, bx, by, cx, cy) < 0) | ((b < a) & (b < c) & !lowest)
+}
+
+// Whether side s is on the rim and r is not the rim side that goes on from it, or the way along both is wrong.
+fn is_odd(
+    xs: &[u16],
+    ys: &[u16],
+    corners: &[u16],
+    mate: &[u16; 6129],
+    s: usize,
+    r: usize,
+    lowest: usize,
+) -> bool
+    requires { ⌜ Plotted (office (now xs) (now ys) (now corners)) × Mated (now corners) (now mate) × (s < length (now corners)) ⌝ }
+    ensures { λ b. ⌜ (b ≡ false → Smooth (office (now (xs .entry)) (now (ys .entry)) (now (corners .entry))) lowest s) ⌝ }
+{
+    let bare = is_rim(corners, mate, s);
+    if !bare {
+        return false;
+    }
+    if corners.len() <= r {
+        return true;
+    }
+    let e = s / 3 * 3 + (s + 1) % 3;
+    let p = wide(corners[e]);
+    let q = wide(corners[r]);
+    if p != q {
+        return true;
+    }
+    let on = is_rim(corners, mate, r);
+    if !on {
+        return true;
+    }
+    let a = corner_at(xs, ys, corners, s);
+    let b = corner_at(xs, ys, corners, e);
+    let c = corner_at(xs, ys, corners, r / 3 * 3 + (r + 1) % 3);
+    is_wrong(a.x, a.y, b.x, b.y, c.x, c.y, p == lowest)
+}
+
+// Whether the rim never turns right, and goes round once.
+fn is_convex(xs: &[u16], ys: &[u16], corners: &[u16], mate: &[u16; 6129]) -> bool
+    requires { ⌜ Plotted (office (now xs) (now ys) (now corners)) × Mated (now corners) (now mate) ⌝ }
+    ensures { λ b. ⌜ (b ≡ true → AllSmooth (office (now (xs .entry)) (now (ys .entry)) (now (corners .entry)))) ⌝ }
+{
+    let lowest = lowest_point(xs, ys);
+    let onward = rim_sides(corners, mate);
+    let mut s = 0;
+    while s < corners.len() {
+        let e = s / 3 * 3 + (s + 1) % 3;
+        let p = wide(corners[e]);
+        let r = wide(onward[p]);
+        if is_odd(xs, ys, corners, mate, s, r, lowest) {
+            return false;
+        }
+        s += 1;
+    }
+    true
+}
+
+// Whether both hold.
+pub fn is_neat(xs: &[u16], ys: &[u16], corners: &[u16], mate: &[u16; 6129]) -> bool
+    requires { ⌜ Plotted (office (now xs) (now ys) (now corners)) × Mated (now corners) (now mate) ⌝ }
+    ensures { λ b. ⌜ (b ≡ true → Neat (office (now (xs .entry)) (now (ys .entry)) (now (corners .entry)))) ⌝ }
+{
+    let convex = is_convex(xs, ys, corners, mate);
+    if !convex {
+        return false;
+    }
+    is_local(xs, ys, corners, mate)
+}
