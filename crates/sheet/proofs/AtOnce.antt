@@ -1,27 +1,19 @@
 -- An office that the refusals 1 to 10 and 12 pass is acceptable where its rim turns left and goes round once, and no circle holds the
 -- corner just beyond one of its sides: neither needs every point. Assumes nothing.
-use mathlib.Core.Path.{_≡_, sym}
-use mathlib.Core.Logic.{_⊎_, inl, inr}
+use mathlib.Core.Path.{_≡_}
 use Prim.Native.Nat.{ℕ, _%_, _<_, _≤_}
-use lib.IntN.{ℤ, pos}
+use lib.IntN.{pos}
 use lib.Signed.{_<ℤ_}
 use lib.ListN.{length}
 use Rattle.sheet.specs.Plane.{turn}
 use Rattle.sheet.specs.Office.{Office, points, sides, point, tail, head}
 use Rattle.sheet.specs.Acceptable.{Rim, Acceptable}
 use Rattle.sheet.specs.Quick.{Ringed, Half, Convex}
-use Rattle.sheet.proofs.Sign.{Pos, Non, opp, non-is, twice, either, non-less}
+use Rattle.sheet.proofs.Sign.{less-opp}
 use Rattle.sheet.proofs.Tiling.{Tiling}
 use Rattle.sheet.proofs.Tiled.{parted-of}
 use Rattle.sheet.proofs.Outermost.{none-right}
 use Rattle.sheet.proofs.Global.{Global, delaunay, from-half}
-
-less-opp : (z : ℤ) → z <ℤ pos 0 → Pos (opp z)
-less-opp z l = step (either (opp z))
-  where
-    step : Pos (opp z) ⊎ Non (opp (opp z)) → Pos (opp z)
-    step (inl h) = h
-    step (inr h) = absurd (non-less (non-is (sym (twice z)) h) l)
 
 module _ {o : Office} (a : Ringed o) (c : Convex o) where
   -- no point lies strictly right of a rim side

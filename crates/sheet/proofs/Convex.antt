@@ -1,6 +1,6 @@
 -- A closed row of points that rises and then falls, and turns left from each step to the next of the same kind: no point of it lies
 -- strictly right of a step. Assumes nothing.
-use mathlib.Core.Path.{_≡_, refl, sym, ap, subst, _∙_}
+use mathlib.Core.Path.{_≡_, sym, ap, subst, _∙_}
 use mathlib.Core.Logic.{_⊎_, inl, inr}
 use mathlib.Core.List.{List, [], _∷_}
 use Prim.Native.Nat.{ℕ, zero, suc, _+_, _-_, _<_, _≤_}
@@ -9,8 +9,8 @@ use native.Mathlib.Omega.{arith}
 use lib.IntN.{ℤ, pos, negsuc, _+ℤ_, _-ℤ_, _*ℤ_}
 use Rattle.laws.proofs.Solve.{v, k, _:+_, _:-_, _:*_, solve}
 use Rattle.sheet.specs.Plane.{Point, dx, dy, turn}
-use Rattle.sheet.proofs.Sign.{Pos, Non, opp, weak, pos-is, self-opposite, non-is, non-add, non-zero, either, twice, strict, loose, exactly, lax, _·_, _⊗_, _⊕_, _⊙_, clash}
-use Rattle.sheet.proofs.Cross.{crossE, turn-zero, turn-cycle, turn-self}
+use Rattle.sheet.proofs.Sign.{Pos, Non, opp, not-under, weak, pos-is, self-opposite, non-is, non-add, non-zero, either, twice, strict, loose, exactly, lax, _·_, _⊗_, _⊕_, _⊙_, clash}
+use Rattle.sheet.proofs.Cross.{crossE, turn-zero, turn-cycle}
 
 -- how the way from c to d turns against that from a to b
 unfoldable pub swing : Point → Point → Point → Point → ℤ
@@ -41,13 +41,6 @@ swing-on a b c d =
 -- and back
 sum-back : (a b c d : Point) → turn a b d +ℤ swing c d a b ≡ turn a b c
 sum-back a b c d = rw (swing-on a b c d, swing-back a b c d) (solve (v 0 :+ (k (pos 0) :- v 1) :+ v 1) (v 0) (turn a b c ∷ swing c d a b ∷ []) tt)
-
-not-under : (z : ℤ) → (Pos (opp z) → ⊥) → Non z
-not-under z f = step (either (opp z))
-  where
-    step : Pos (opp z) ⊎ Non (opp (opp z)) → Non z
-    step (inl h) = absurd (f h)
-    step (inr h) = non-is (sym (twice z)) h
 
 module _ (at : ℕ → Point) where
   -- step j against step i; point j against step i

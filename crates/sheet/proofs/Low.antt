@@ -1,33 +1,28 @@
 -- A rim that never turns right and has one lowest point: none of its points lies strictly right of a rim side. Assumes nothing.
-use mathlib.Core.Path.{_≡_, refl, sym, ap, ap₂, subst, _∙_}
-use mathlib.Core.Bool.{Bool, true, false, not}
+use mathlib.Core.Path.{_≡_, refl, sym, ap, subst, _∙_}
+use mathlib.Core.Bool.{Bool, true, not}
 use mathlib.Core.List.{[], _∷_}
 use Prim.Native.Nat.{ℕ, zero, suc, _+_, _-_, _*_, _<_, _≤_}
 use native.Mathlib.Numerals.{add-one}
 use native.Mathlib.Decide.{ℕ-discrete, decLt}
 use native.Mathlib.Omega.{arith}
 use lib.Dec.{ltb, eqb}
-use lib.IntN.{ℤ, pos, _+ℤ_, _-ℤ_, _*ℤ_}
+use lib.IntN.{pos, _-ℤ_}
 use Rattle.laws.specs.First.{first}
 use Rattle.laws.specs.Round.{Round}
 use Rattle.laws.proofs.Search.{first-is}
-use Rattle.laws.proofs.Test.{plain, eqb-iff, ltb-iff, not-iff, kept-iff}
+use Rattle.laws.proofs.Test.{eqb-iff, ltb-iff, not-iff, kept-iff}
 use Rattle.laws.proofs.Round.{early, from-step, from-step-at}
 use Rattle.laws.proofs.Solve.{v, k, _:+_, _:-_, _:*_, solve}
-use Rattle.sheet.specs.Plane.{Point, dx, dy, turn}
+use Rattle.sheet.specs.Plane.{Point, turn}
 use Rattle.sheet.specs.Office.{Office, points, sides, point, tail, head, next}
 use Rattle.sheet.specs.Acceptable.{Rim, Along}
-use Rattle.sheet.proofs.Sign.{Pos, Non, opp, pos-is, non-is, not-less}
+use Rattle.sheet.proofs.Sign.{Non, opp, pos-is, non-is, not-less, gap-pos}
 use Rattle.sheet.proofs.Cancel.{Seek, hit, miss, seek, differ}
 use Rattle.sheet.proofs.Side.{next-below}
 use Rattle.sheet.proofs.Corner.{tail-not-head}
-use Rattle.sheet.specs.Quick.{Ringed, key, Onward, Convex}
-use Rattle.sheet.proofs.Convex.{swing, swing-turn, climb, climbs, Climbing, convex, aside}
-
-pub gap-pos : (m n : ℕ) → m < n → Pos (pos n -ℤ pos m)
-gap-pos m n l =
-    let e : n ≡ m + suc (n - suc m) = omega arith in
-    record { by = n - suc m; is = ap (λ t. pos t -ℤ pos m) e ∙ solve (v 0 :+ v 1 :- v 0) (v 1) (pos m ∷ pos (suc (n - suc m)) ∷ []) tt }
+use Rattle.sheet.specs.Quick.{Ringed, key, Convex}
+use Rattle.sheet.proofs.Convex.{swing, swing-turn, climb, climbs, convex}
 
 -- the key climbs in a direction
 climb-key : (a b : Point) → pos (key b) -ℤ pos (key a) ≡ climb (pos 16384) (pos 1) a b

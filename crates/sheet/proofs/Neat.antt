@@ -1,9 +1,8 @@
 -- What the quick tests answer for: an office that passes them and the refusals 1 to 10 and 12 is accepted. Assumes nothing.
 use mathlib.Core.Path.{_≡_, refl, sym, subst, _∙_}
 use mathlib.Core.Bool.{Bool, true, false, not, _&&_, _||_}
-use mathlib.Core.Logic.{inl, inr}
-use Prim.Native.Nat.{ℕ, _+_, _*_, _<_, _≤_}
-use native.Mathlib.Decide.{ℕ-discrete, decLt}
+use Prim.Native.Nat.{ℕ, _+_, _*_, _<_}
+use native.Mathlib.Decide.{ℕ-discrete}
 use native.Mathlib.Omega.{arith}
 use lib.Dec.{ltb, eqb}
 use lib.IntN.{pos}
@@ -11,9 +10,9 @@ use lib.Signed.{_<ℤ_, ltZ}
 use Rattle.laws.specs.Round.{Round}
 use Rattle.laws.proofs.Test.{plain, first-of, not-iff, neither-iff, and-iff, false-iff, ltb-iff, eqb-iff, less-iff}
 use Rattle.sheet.specs.Plane.{spot, turn, circle}
-use Rattle.sheet.specs.Office.{Office, points, sides, triangles, point, tail, head, apex, reverse, rim, mate-of, one-ring, rims}
+use Rattle.sheet.specs.Office.{Office, sides, point, tail, head, apex, reverse, rim, mate-of, one-ring, rims}
 use Rattle.sheet.specs.Acceptable.{Left, Single, Used, Rim, Along}
-use Rattle.sheet.specs.Verdict.{Verdict, accepted, rim-verdict}
+use Rattle.sheet.specs.Verdict.{accepted, rim-verdict}
 use Rattle.sheet.specs.Code.{Plotted, At}
 use Rattle.sheet.specs.Quick.{Ringed, Half, Convex, Clear, AllClear, Smooth, AllSmooth, Neat, Goes, Onward, key}
 use Rattle.sheet.proofs.AtPoint.{spot-at}
@@ -39,7 +38,7 @@ module _ (o : Office) (s r : ℕ) where
       let n = spot-at d in
       let g : pos 0 <ℤ circle (point o (tail o s)) (point o (head o s)) (point o (apex o s)) (point o (apex o r)) = subst (λ q. pos 0 <ℤ circle (point o (tail o s)) (point o (head o s)) (point o (apex o s)) (point o (apex o q))) (sym m) h in
       let t = less-iff .1 g in
-      differ {b = true} refl (cc)
+      differ {b = true} refl cc
 
   pub smooth-at : {ax ay bx by cx cy p lowest : ℕ} {w : Bool} → s < sides o → r < sides o → rim o r ≡ true → p ≡ head o s → head o s ≡ tail o r
       → At o (tail o s) ax ay → At o (head o s) bx by → At o (head o r) cx cy
@@ -53,7 +52,7 @@ module _ (o : Office) (s r : ℕ) where
       record {
         side = r;
         onward = (ls, lr, x, rim-iff o r .0 z, y);
-        bends = λ h. let t = less-iff .1 h in differ {b = true} refl (cc);
+        bends = λ h. let t = less-iff .1 h in differ {b = true} refl cc;
         low = λ u v. elim (ℕ-discrete p lowest) [
           | yes n ↦ sym q ∙ n
           | no n ↦ absurd (false-iff .0 (g .1) (and-iff .1 (and-iff .1 (ltb-iff .1 (key-below b a u), ltb-iff .1 (key-below b c v)), not-iff .1 (λ t. n (eqb-iff .0 t)))))
@@ -62,20 +61,6 @@ module _ (o : Office) (s r : ℕ) where
 
 pub not-rim : (o : Office) (s : ℕ) {bared : Bool} {A : Type 0} → bared ≡ rim o s → not bared ≡ true → Rim o s → A
 not-rim o s e f x = absurd (not-iff .0 f (e ∙ rim-iff o s .1 x))
-
--- ---- each of them so far
-pub record Passed (P : ℕ → Type 0) (n i : ℕ) : Type 0 where
-  pub within : i ≤ n
-  pub so-far : (k : ℕ) → k < i → P k
-
-pub passed-none : {P : ℕ → Type 0} {n : ℕ} → Passed P n 0
-passed-none = record { within = omega arith; so-far = λ k l. absurd (omega arith) }
-
-pub passed-one : {P : ℕ → Type 0} {n i : ℕ} → Passed P n i → i < n → P i → Passed P n (i + 1)
-passed-one {P} {n} {i} h l x = record { within = omega arith; so-far = λ k b. elim (decLt k i) [ yes y ↦ h .so-far k y | no f ↦ (let e : i ≡ k = omega arith in subst P e x) ] }
-
-pub passed-all : {P : ℕ → Type 0} {n i : ℕ} → Passed P n i → n ≤ i → (k : ℕ) → k < n → P k
-passed-all h l k b = h .so-far k (omega arith)
 
 -- ---- all of them
 -- a side's mate is the one side that runs back along it

@@ -1,27 +1,27 @@
 -- Where no rim point lies strictly right of a rim side, no point does. Assumes nothing.
-use mathlib.Core.Path.{_≡_, refl, sym, ap, ap₂, subst, _∙_}
-use mathlib.Core.Bool.{Bool, true, false, not, _&&_}
+use mathlib.Core.Path.{_≡_, refl, sym, ap, subst, _∙_}
+use mathlib.Core.Bool.{false, _&&_}
 use mathlib.Core.Logic.{_⊎_, inl, inr}
 use mathlib.Core.List.{List, [], _∷_}
-use Prim.Native.Nat.{ℕ, zero, suc, _+_, _*_, _<_, _≤_}
+use Prim.Native.Nat.{ℕ, _+_, _*_, _<_}
 use native.Mathlib.Omega.{arith}
 use lib.Dec.{eqb}
 use lib.IntN.{ℤ, pos, negsuc, _+ℤ_, _-ℤ_, _*ℤ_}
-use Rattle.laws.proofs.Test.{plain, eqb-iff}
+use Rattle.laws.proofs.Test.{eqb-iff}
 use Rattle.laws.proofs.Solve.{Ex, v, k, _:+_, _:-_, _:*_, solve}
 use Rattle.sheet.specs.Plane.{Point, dx, dy, turn}
 use Rattle.sheet.specs.Office.{Office, points, sides, point, tail, head, apex, last}
-use Rattle.sheet.specs.Acceptable.{Reverse, Rim, Along}
-use Rattle.sheet.proofs.Sign.{Pos, Non, Sign, above, null, under, sign, opp, weak, pos-is, non-is, non-zero, pos-add, pos-less, pos-apart, never, both, either, twice, At, strict, loose, exactly, lax, less-out, out-less, _·_, _⊗_, _⊕_, _⊙_, clash}
+use Rattle.sheet.specs.Acceptable.{Reverse, Rim}
+use Rattle.sheet.proofs.Sign.{Pos, Non, Sign, above, null, under, sign, opp, weak, pos-is, non-is, pos-add, pos-less, gap-pos, pos-apart, never, both, either, twice, At, strict, loose, exactly, lax, less-out, _·_, _⊗_, _⊕_, _⊙_, clash}
 use Rattle.sheet.proofs.Cross.{turn-zero, turn-swap}
 use Rattle.sheet.proofs.Ray.{level, plucker}
 use Rattle.sheet.proofs.Tiling.{left-turn-of}
 use Rattle.sheet.proofs.Cancel.{Seek, hit, miss, seek, mate, differ, and-both, both-and}
-use Rattle.sheet.proofs.Cavity.{plus, plus-pos, pos-plus, not-plus}
+use Rattle.sheet.proofs.Cavity.{plus, plus-pos, pos-plus}
 use Rattle.sheet.proofs.Corner.{tail-not-head}
 use Rattle.sheet.proofs.Side.{last-below, head-last}
 use Rattle.sheet.specs.Quick.{Ringed, key, Convex}
-use Rattle.sheet.proofs.Low.{gap-pos, key-single, head-below, rim-convex}
+use Rattle.sheet.proofs.Low.{key-single, head-below, rim-convex}
 use Rattle.laws.proofs.Rise.{no-last}
 
 -- more than any key

@@ -4,12 +4,12 @@ use Prim.Native.Nat.{_-_, _<_}
 use native.Mathlib.Omega.{arith}
 use borrow.Author.Needs.{needs}
 use lib.ListN.{length}
+use Rattle.laws.proofs.Each.{Passed, passed-none, passed-one, passed-all}
 use Rattle.sheet.specs.Office.{office, next}
 use Rattle.sheet.specs.Quick.{Smooth}
 use Rattle.sheet.proofs.Cancel.{differ}
 use Rattle.sheet.proofs.Plots.{low-numbers}
 use Rattle.sheet.proofs.Side.{next-below}
-use Rattle.sheet.proofs.Neat.{Passed, passed-none, passed-one, passed-all}
 use Rattle.sheet.proofs.quick.is_convex.Statement.{statement}
 use Rattle.sheet.proofs.quick.is_convex.Tie as tie
 

@@ -3,10 +3,10 @@ use mathlib.Core.Path.{refl}
 use Prim.Native.Nat.{_-_}
 use borrow.Author.Needs.{needs}
 use lib.ListN.{length}
+use Rattle.laws.proofs.Each.{Passed, passed-none, passed-one, passed-all}
 use Rattle.sheet.specs.Office.{office}
 use Rattle.sheet.specs.Quick.{Clear}
 use Rattle.sheet.proofs.Cancel.{differ}
-use Rattle.sheet.proofs.Neat.{Passed, passed-none, passed-one, passed-all}
 use Rattle.sheet.proofs.quick.is_local.Statement.{statement}
 use Rattle.sheet.proofs.quick.is_local.Tie as tie
 

@@ -1,6 +1,5 @@
 -- `sheet::quick::lowest_point` is safe, and ends. Assumes nothing.
 use Prim.Native.Nat.{_-_, _≤_}
-use native.Mathlib.Omega.{arith}
 use borrow.Author.Needs.{needs}
 use lib.ListN.{length}
 use Rattle.sheet.proofs.quick.lowest_point.Statement.{statement}
