@@ -44,7 +44,9 @@ pub mod Convex
 pub mod Low
 pub mod Outermost
 pub mod AtOnce
+pub mod Leaving
 pub mod Neat
+pub mod Passes
 pub mod Areas
 pub mod NoOverlap
 pub mod Rotate

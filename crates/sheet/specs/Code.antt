@@ -6,9 +6,9 @@ use Prim.Native.Nat.{ℕ, suc, _+_, _*_, _%_, _<_, _≤_}
 use lib.Dec.{ltb, eqb}
 use lib.IntN.{ℤ, pos, _+ℤ_, _-ℤ_, _*ℤ_}
 use lib.ListN.{length, getD, take}
-use Rattle.laws.specs.First.{final, table}
+use Rattle.laws.specs.First.{first, final, table}
 use Rattle.sheet.specs.Plane.{Point, Small, spot, dx, dy, turn}
-use Rattle.sheet.specs.Office.{Office, office, bare, points, sides, point, tail, head, mate-of}
+use Rattle.sheet.specs.Office.{Office, office, bare, points, sides, point, tail, head, rim, mate-of}
 
 -- the points alone
 abbrev pub cloud : List ℕ → List ℕ → Office
@@ -80,3 +80,11 @@ pub record Coefficients (a b c : Point) (across up rest lift : ℤ) : Type 0 whe
 
 abbrev pub linear : ℤ → ℤ → ℤ → ℤ → ℕ → ℕ → ℕ → ℤ
 linear across up rest lift x y height = across *ℤ pos x +ℤ up *ℤ pos y +ℤ rest -ℤ lift *ℤ pos height
+
+-- side s is on the rim and starts at point p
+abbrev pub leaves : List ℕ → ℕ → ℕ → Bool
+leaves corners p s = eqb (tail (bare corners) s) p && rim (bare corners) s
+
+-- for each point the first rim side from it, or the number of sides
+abbrev pub Leaving : List ℕ → List ℕ → Type 0
+Leaving corners list = (p : ℕ) → p < 1024 → getD list p 0 ≡ first (leaves corners p) (length corners)

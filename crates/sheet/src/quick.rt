@@ -5,10 +5,11 @@ use super::circles::is_inside;
 use super::plane::turn;
 use super::plane::wide;
 use super::ring::is_rim;
+use super::ring::leaving;
 use super::spots::corner_at;
 ghost use mathlib.Core.Path.{_≡_};
 ghost use mathlib.Core.Bool.{true, false, not, _&&_, _||_};
-ghost use Prim.Native.Nat.{_+_, _*_, _%_, _<_, _≤_};
+ghost use Prim.Native.Nat.{_+_, _*_, _<_};
 ghost use lib.Dec.{ltb};
 ghost use lib.IntN.{pos};
 ghost use lib.ListN.{length};
@@ -16,7 +17,7 @@ ghost use lib.Signed.{ltZ};
 ghost use Rattle.sheet.specs.Plane.{spot, Small};
 ghost use Rattle.sheet.specs.Plane as plane;
 ghost use Rattle.sheet.specs.Office.{office};
-ghost use Rattle.sheet.specs.Code.{Plotted, Mated, Numbered};
+ghost use Rattle.sheet.specs.Code.{Plotted, Mated};
 ghost use Rattle.sheet.specs.Quick.{Clear, AllClear, Smooth, AllSmooth, Neat};
 
 // Whether d lies strictly inside the circle through a b c.
@@ -78,10 +79,6 @@ fn either_key(b: bool, x: u32, y: u32) -> u32 {
     if b { x } else { y }
 }
 
-fn either_side(b: bool, x: u16, y: u16) -> u16 {
-    if b { x } else { y }
-}
-
 // The point of the lowest key. What is proved of the tests below holds for any point.
 fn lowest_point(xs: &[u16], ys: &[u16]) -> usize
     requires { ⌜ length (now xs) ≡ length (now ys) ⌝ }
@@ -97,21 +94,6 @@ fn lowest_point(xs: &[u16], ys: &[u16]) -> usize
         p += 1;
     }
     best
-}
-
-// For each point the rim side from it. What is proved of the tests below holds for any list: a side that is none is seen there.
-fn rim_sides(corners: &[u16], mate: &[u16; 6129]) -> [u16; 1024]
-    requires { ⌜ Mated (now corners) (now mate) × (length (now corners) ≤ 6129) × Numbered (now corners) 1024 ⌝ }
-{
-    let mut list = [0u16; 1024];
-    let mut s = 0;
-    while s < corners.len() {
-        let p = wide(corners[s]);
-        let old = list[p];
-        list[p] = either_side(is_rim(corners, mate, s), s as u16, old);
-        s += 1;
-    }
-    list
 }
 
 // Whether the way a b c turns right, or b has the lowest key of the three and is not the point that may.
@@ -167,7 +149,7 @@ fn is_convex(xs: &[u16], ys: &[u16], corners: &[u16], mate: &[u16; 6129]) -> boo
     ensures { λ b. ⌜ (b ≡ true → AllSmooth (office (now (xs .entry)) (now (ys .entry)) (now (corners .entry)))) ⌝ }
 {
     let lowest = lowest_point(xs, ys);
-    let onward = rim_sides(corners, mate);
+    let onward = leaving(corners, mate);
     let mut s = 0;
     while s < corners.len() {
         let e = s / 3 * 3 + (s + 1) % 3;

@@ -9,8 +9,8 @@ ghost use Prim.Native.Nat.{_+_, _%_, _<_, _≤_};
 ghost use lib.Dec.{eqb};
 ghost use lib.ListN.{length, getD};
 ghost use Rattle.laws.specs.First.{first, walk, stepped, once};
-ghost use Rattle.sheet.specs.Office.{office, bare, tail, rim, rims, start, after, one-ring, right, outer};
-ghost use Rattle.sheet.specs.Code.{Plotted, Mated, Numbered};
+ghost use Rattle.sheet.specs.Office.{office, bare, rim, rims, start, after, one-ring, right, outer};
+ghost use Rattle.sheet.specs.Code.{Plotted, Mated, Numbered, Leaving};
 
 // Whether side s is on the rim.
 pub fn is_rim(corners: &[u16], mate: &[u16; 6129], s: usize) -> bool
@@ -75,34 +75,35 @@ fn rim_start(corners: &[u16], mate: &[u16; 6129]) -> usize
     corner_or_zero(corners, first_rim(corners, mate))
 }
 
-fn leaves(corners: &[u16], mate: &[u16; 6129], p: usize, s: usize) -> bool
-    requires { ⌜ Mated (now corners) (now mate) × (length (now corners) ≤ 6129) × (s < length (now corners)) ⌝ }
-    ensures { λ b. ⌜ b ≡ (eqb (tail (bare (now (corners .entry))) s) p && rim (bare (now (corners .entry))) s) ⌝ }
+fn either_side(b: bool, x: u16, y: u16) -> u16
+    ensures { λ r. ⌜ r ≡ cond b x y ⌝ }
 {
-    (wide(corners[s]) == p) & is_rim(corners, mate, s)
+    if b { x } else { y }
 }
 
-// The first rim side that starts at p, or the number of sides.
-fn leaving(corners: &[u16], mate: &[u16; 6129], p: usize) -> usize
-    requires { ⌜ Mated (now corners) (now mate) × (length (now corners) ≤ 6129) ⌝ }
-    ensures { λ r. ⌜ r ≡ first (λ s. eqb (tail (bare (now (corners .entry))) s) p && rim (bare (now (corners .entry))) s) (length (now (corners .entry))) ⌝ }
+// For each point the first rim side from it, or the number of sides.
+pub fn leaving(corners: &[u16], mate: &[u16; 6129]) -> [u16; 1024]
+    requires { ⌜ Mated (now corners) (now mate) × (length (now corners) ≤ 6129) × Numbered (now corners) 1024 ⌝ }
+    ensures { λ r. ⌜ Leaving (now (corners .entry)) r ⌝ }
 {
-    let mut s = 0;
-    while s < corners.len() {
-        if leaves(corners, mate, p, s) {
-            return s;
-        }
-        s += 1;
+    let n = corners.len() as u16;
+    let mut list = [n; 1024];
+    let mut s = corners.len();
+    while 0 < s {
+        s -= 1;
+        let p = wide(corners[s]);
+        let old = list[p];
+        list[p] = either_side(is_rim(corners, mate, s), s as u16, old);
     }
-    s
+    list
 }
 
 // Where the rim goes on from p.
-fn onward(corners: &[u16], mate: &[u16; 6129], p: usize) -> usize
-    requires { ⌜ Mated (now corners) (now mate) × (length (now corners) ≤ 6129) ⌝ }
+fn onward(corners: &[u16], list: &[u16; 1024], p: usize) -> usize
+    requires { ⌜ (length (now corners) ≤ 6129) × (p < 1024) × Leaving (now corners) (now list) ⌝ }
     ensures { λ r. ⌜ r ≡ after (bare (now (corners .entry))) p ⌝ }
 {
-    let s = leaving(corners, mate, p);
+    let s = wide(list[p]);
     corner_or_zero(corners, s / 3 * 3 + (s + 1) % 3)
 }
 
@@ -112,6 +113,7 @@ fn goes_round(corners: &[u16], mate: &[u16; 6129], rim: usize) -> bool
     ensures { λ b. ⌜ b ≡ (once (walk (after (bare (now (corners .entry)))) (start (bare (now (corners .entry)))) rim) && eqb (stepped (after (bare (now (corners .entry)))) (start (bare (now (corners .entry)))) rim) (start (bare (now (corners .entry))))) ⌝ }
 {
     let begun = rim_start(corners, mate);
+    let list = leaving(corners, mate);
     let mut seen = [0u8; 1024];
     let mut p = begun;
     let mut i = 0;
@@ -120,7 +122,7 @@ fn goes_round(corners: &[u16], mate: &[u16; 6129], rim: usize) -> bool
             return false;
         }
         seen[p] = 1;
-        p = onward(corners, mate, p);
+        p = onward(corners, &list, p);
         i += 1;
     }
     p == begun
