@@ -37,8 +37,9 @@ pub mod Share
 pub mod Inner
 pub mod Aim
 pub mod Tiled
-pub mod Cavity
+pub mod Plus
 pub mod Reach
+pub mod Cavity
 pub mod Global
 pub mod Convex
 pub mod Low

@@ -17,7 +17,7 @@ use Rattle.sheet.proofs.Cross.{turn-zero, turn-swap}
 use Rattle.sheet.proofs.Ray.{level, plucker}
 use Rattle.sheet.proofs.Tiling.{left-turn-of}
 use Rattle.sheet.proofs.Cancel.{Seek, hit, miss, seek, mate, differ, and-both, both-and}
-use Rattle.sheet.proofs.Cavity.{plus, plus-pos, pos-plus}
+use Rattle.sheet.proofs.Plus.{plus, plus-pos, pos-plus}
 use Rattle.sheet.proofs.Corner.{tail-not-head}
 use Rattle.sheet.proofs.Side.{last-below, head-last}
 use Rattle.sheet.specs.Quick.{Ringed, key, Convex}
