@@ -41,6 +41,8 @@ pub mod Plus
 pub mod Reach
 pub mod Cavity
 pub mod Global
+pub mod Fan
+pub mod Strict
 pub mod Convex
 pub mod Low
 pub mod Outermost

@@ -1,9 +1,9 @@
 -- Whether a number is above 0, as a test. Assumes nothing.
-use mathlib.Core.Path.{_≡_, refl, ap}
+use mathlib.Core.Path.{_≡_, refl, sym, ap}
 use mathlib.Core.Bool.{Bool, true, false, not}
 use Prim.Native.Nat.{zero, suc}
 use lib.IntN.{ℤ, pos, negsuc, +ℤ-idl}
-use Rattle.sheet.proofs.Sign.{Pos, Non, opp, both}
+use Rattle.sheet.proofs.Sign.{Pos, Non, opp, non-is, twice, both}
 use Rattle.sheet.proofs.Cancel.{differ}
 
 abbrev pub plus : ℤ → Bool
@@ -28,3 +28,13 @@ pub plus-not : (z : ℤ) → not (plus z) ≡ true → Non (opp z)
 plus-not (pos zero) e = record { by = 0; is = refl }
 plus-not (pos (suc n)) e = differ e refl
 plus-not (negsuc n) e = record { by = suc n; is = +ℤ-idl (pos (suc n)) }
+
+-- and whether it is not below 0
+abbrev pub least : ℤ → Bool
+least z = not (plus (opp z))
+
+pub least-non : (z : ℤ) → least z ≡ true → Non z
+least-non z e = non-is (sym (twice z)) (plus-not (opp z) e)
+
+pub non-least : (z : ℤ) → Non z → least z ≡ true
+non-least z h = not-plus (opp z) (non-is (twice z) h)

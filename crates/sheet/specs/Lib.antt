@@ -7,3 +7,4 @@ pub mod Rules
 pub mod Code
 pub mod Answer
 pub mod Quick
+pub mod Unambiguous
