@@ -43,6 +43,8 @@ pub mod Cavity
 pub mod Global
 pub mod Fan
 pub mod Strict
+pub mod Lens
+pub mod Coincide
 pub mod Convex
 pub mod Low
 pub mod Outermost
