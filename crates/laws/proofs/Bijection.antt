@@ -63,10 +63,11 @@ module _ {n m : ℕ} (to from : ℕ → ℕ) (to-below : (i : ℕ) → i < n →
       (sum-inject f g n m (λ i j. (i < n) × (to i ≡ j)) (λ i l. (to i, to-below i l, le-of-eq (sym (e i l)), (l, refl)))
       (λ i k j x y. sym (from-to i (x .0)) ∙ ap from (x .1 ∙ sym (y .1)) ∙ from-to k (y .0)))
 
+  pub as-many : n ≡ m
+  as-many = sym (count-all n) ∙ sym (count-along (λ _. true) (λ _. true) (λ i l. refl)) ∙ count-all m
+
 pub same-size : {n m : ℕ} → Bijection n m → n ≡ m
-same-size {n} {m} b =
-    let e = count-along (b .to) (b .from) (b .to-below) (b .from-below) (λ i _. b .from-to i) (λ j _. b .to-from j) (λ _. true) (λ _. true) (λ i l. refl) in
-    sym (count-all n) ∙ sym e ∙ count-all m
+same-size b = as-many (b .to) (b .from) (b .to-below) (b .from-below) (λ i _. b .from-to i) (λ j _. b .to-from j)
 
 -- a round, its points renamed
 pub renamed-round : {n m k : ℕ} {A B : ℕ → ℕ → Type 0} (b : Bijection n m) → ((p q : ℕ) → A p q → B (b .to p) (b .to q)) → ((p q : ℕ) → B p q → A (b .from p) (b .from q))

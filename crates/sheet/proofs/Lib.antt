@@ -45,6 +45,8 @@ pub mod Fan
 pub mod Strict
 pub mod Lens
 pub mod Coincide
+pub mod Reordered
+pub mod Alone
 pub mod Convex
 pub mod Low
 pub mod Outermost
