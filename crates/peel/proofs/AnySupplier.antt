@@ -1,13 +1,12 @@
 -- The outlines and the list of an unambiguous office do not depend on who supplied its triangles. Assumes nothing.
 use mathlib.Core.Path.{_≡_, refl, sym, ap, ap₂, subst, fun-ext, _∙_}
 use mathlib.Core.List.{List, _∷_, map}
-use Prim.Native.Nat.{ℕ, suc, _+_, _-_, _<_, _≤_}
+use Prim.Native.Nat.{ℕ, suc, _+_, _-_, _<_}
 use native.Mathlib.Nat.{le-of-lt, le-antisymm}
 use native.Mathlib.Decide.{decLt}
 use native.Mathlib.Omega.{arith}
-use lib.ListN.{length, getD}
 use Rattle.laws.specs.First.{table}
-use Rattle.laws.specs.Round.{Round, rotated}
+use Rattle.laws.specs.Round.{Round}
 use Rattle.laws.proofs.Fill.{length-table, getD-table}
 use Rattle.laws.proofs.Round.{apart-early}
 use Rattle.laws.proofs.OneRound.{map-table, rotated-table}
@@ -19,7 +18,7 @@ use Rattle.rim.specs.Peel.{drawn}
 use Rattle.rim.proofs.Reached.{sound}
 use Rattle.rim.proofs.Rings.{outlined}
 use Rattle.peel.specs.List.{Outline, Entry, outline, entries}
-use Rattle.peel.specs.Renamed.{LowestFirst, Turned, Renamed, Paired, ended, paired}
+use Rattle.peel.specs.Renamed.{LowestFirst, Turned, Paired, ended, paired}
 use Rattle.peel.proofs.Falls.{At}
 use Rattle.peel.proofs.DrawEnds.{drawn-ends}
 use Rattle.peel.proofs.Entries.{entry-drawn}

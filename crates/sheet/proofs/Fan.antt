@@ -1,12 +1,12 @@
 -- The triangles at a point p: between any two points that turn left at p, one of them starts. Assumes nothing.
 use mathlib.Core.Path.{_≡_, refl, sym, ap, subst, _∙_}
 use mathlib.Core.Bool.{Bool, true, false, cond, _||_}
-use mathlib.Core.Logic.{_↔_, _⊎_, inl, inr}
+use mathlib.Core.Logic.{_⊎_, inl, inr}
 use Prim.Native.Nat.{ℕ, _/_, _<_}
 use lib.Dec.{eqb}
-use lib.IntN.{ℤ, pos}
+use lib.IntN.{pos}
 use Rattle.laws.proofs.Test.{or-iff, eqb-iff, same-answer}
-use Rattle.sheet.specs.Plane.{Point, turn}
+use Rattle.sheet.specs.Plane.{turn}
 use Rattle.sheet.specs.Office.{Office, points, sides, point, tail, head, apex, last}
 use Rattle.sheet.proofs.Sign.{Pos, pos-is, never, both}
 use Rattle.sheet.proofs.Total.{total-some}
@@ -16,7 +16,8 @@ use Rattle.sheet.proofs.Ray.{Enters}
 use Rattle.sheet.proofs.Tiling.{Tiling, Even, even-at, even-of, at-side, left-turn}
 use Rattle.sheet.proofs.Cancel.{part}
 use Rattle.sheet.proofs.Wind.{enters-of}
-use Rattle.sheet.proofs.Reach.{Spreads, way-x, way-y, crossed, reached}
+use Rattle.sheet.proofs.Spread.{Spreads}
+use Rattle.sheet.proofs.Reach.{way-x, way-y, crossed, reached}
 
 -- i is one of three corners
 abbrev pub One : ℕ → ℕ → ℕ → ℕ → Type 0
@@ -76,7 +77,7 @@ module _ (o : Office) (τ : Tiling o) (i : ℕ) (li : i < points o) where
     fan =
         let (z, lz, e) = τ .used i li in
         let (s, l, h) = total-some (part o there (crossed o i u w)) (sides o)
-            (reached o τ i li there there-even there-spreads u w lu lw uw (z / 3) (triangle-below (sides o) z (τ .whole) lz) (sym (even-at there there-even z) ∙ one-is i (inl e))) in
+        (reached o τ i li there there-even there-spreads u w lu lw uw (z / 3) (triangle-below (sides o) z (τ .whole) lz) (sym (even-at there there-even z) ∙ one-is i (inl e))) in
         step s l (there s) refl h
       where
         across : (s : ℕ) → s < sides o → Between (tail o s) (head o s) → One i (tail o s) (head o s) (apex o s) → (s : ℕ) × (s < sides o) × (tail o s ≡ i) × Between (head o s) (apex o s)

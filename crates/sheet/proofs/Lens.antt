@@ -1,6 +1,6 @@
 -- Two circles through p, and a ray from p between b and c on the one and between u and w on the other: where neither holds the other's
 -- points, the circles are one. Assumes nothing.
-use mathlib.Core.Path.{_≡_, sym, ap, ap₂, _∙_}
+use mathlib.Core.Path.{_≡_, ap, _∙_}
 use mathlib.Core.List.{List, [], _∷_}
 use lib.IntN.{ℤ, pos, _+ℤ_, _-ℤ_, _*ℤ_}
 use Rattle.laws.proofs.Solve.{v, k, _:+_, _:-_, _:*_, solve}
@@ -34,14 +34,18 @@ module _ (p : Point) (wx wy : ℤ) (b c u w : Point) where
     nought : {z : ℤ} → opp z ≡ pos 0 → z ≡ pos 0
     nought {z} e = twice z ∙ ap opp e
 
-    pub on-u : circle p b c u ≡ pos 0
+    on-u : circle p b c u ≡ pos 0
     on-u = nought (exact fu (λ h.
         clash {ρ = ρ} (strict (k (pos 0) :- v 0) h · strict (v 7) lw)
         (loose (k (pos 0) :- v 1) fw ⊗ lax (strict (k (pos 0) :- v 6) lu) ⊕ loose (k (pos 0) :- v 2) fb ⊗ lax (strict (v 5) lc) ⊕ loose (k (pos 0) :- v 3) fc ⊗ loose (k (pos 0) :- v 4) lb
         ⊕ k (pos 1) ⊙ exactly (v 7 :* v 0 :- v 6 :* v 1 :+ (v 5 :* v 2 :- v 4 :* v 3)) balance) tt))
 
-    pub on-w : circle p b c w ≡ pos 0
+    on-w : circle p b c w ≡ pos 0
     on-w = nought (exact fw (λ h.
         clash {ρ = ρ} (strict (k (pos 0) :- v 1) h · strict (k (pos 0) :- v 6) lu)
         (loose (k (pos 0) :- v 0) fu ⊗ lax (strict (v 7) lw) ⊕ loose (k (pos 0) :- v 2) fb ⊗ lax (strict (v 5) lc) ⊕ loose (k (pos 0) :- v 3) fc ⊗ loose (k (pos 0) :- v 4) lb
         ⊕ k (pos 1) ⊙ exactly (v 7 :* v 0 :- v 6 :* v 1 :+ (v 5 :* v 2 :- v 4 :* v 3)) balance) tt))
+
+    -- u and w lie on the circle of p b c
+    pub both-on : (circle p b c u ≡ pos 0) × (circle p b c w ≡ pos 0)
+    both-on = (on-u, on-w)

@@ -38,6 +38,7 @@ pub mod Inner
 pub mod Aim
 pub mod Tiled
 pub mod Plus
+pub mod Spread
 pub mod Reach
 pub mod Cavity
 pub mod Global

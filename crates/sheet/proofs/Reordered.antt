@@ -1,7 +1,7 @@
 -- Two offices with the same points, of which each has the triangles of the other: one is the other renumbered, and its points keep their
 -- numbers. Assumes nothing.
 use mathlib.Core.Path.{_≡_, refl, sym, ap, subst, _∙_}
-use mathlib.Core.Bool.{Bool, _&&_}
+use mathlib.Core.Bool.{_&&_}
 use mathlib.Core.Logic.{inl, inr}
 use mathlib.Core.List.{List}
 use Prim.Native.Nat.{ℕ, zero, suc, _+_, _*_, _/_, _%_, _<_}
@@ -12,10 +12,10 @@ use Rattle.laws.specs.Bijection.{Bijection}
 use Rattle.laws.proofs.Test.{and-iff, eqb-iff, first-of}
 use Rattle.laws.proofs.Bijection.{as-many}
 use Rattle.laws.proofs.Permutation.{extended, extended-to}
-use Rattle.sheet.specs.Office.{Office, office, sides, triangles, tail, head, apex, next, last}
+use Rattle.sheet.specs.Office.{Office, office, sides, triangles, tail, head, next, last}
 use Rattle.sheet.specs.Acceptable.{Single}
 use Rattle.sheet.specs.Renumbered.{Renumbered}
-use Rattle.sheet.proofs.Side.{own-triangle, next-triangle, last-triangle, triangle-below, OneOf, same-triangle, head-next, head-last, apex-next, apex-last}
+use Rattle.sheet.proofs.Side.{triangle-below, OneOf, same-triangle, head-next, head-last, apex-next, apex-last}
 use Rattle.sheet.proofs.Coincide.{Twin, Holds}
 
 pub twin-back : {o n : Office} {s r : ℕ} → Twin o n s r → Twin n o r s

@@ -15,7 +15,7 @@ use Rattle.sheet.proofs.Cross.{circle-cycle, beyond}
 use Rattle.sheet.proofs.Side.{triangle-below}
 use Rattle.sheet.proofs.Tiling.{Tiling, Even, even-at, even-of, at-side}
 use Rattle.sheet.proofs.Plus.{least, least-non, non-least}
-use Rattle.sheet.proofs.Reach.{Spreads}
+use Rattle.sheet.proofs.Spread.{Spreads}
 use Rattle.sheet.proofs.Cavity.{Local, round, over}
 use Rattle.sheet.proofs.Global.{none-of}
 use Rattle.sheet.proofs.Fan.{One, one, is-one, one-is, one-cycle}
