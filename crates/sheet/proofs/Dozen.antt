@@ -11,7 +11,7 @@ use Rattle.sheet.specs.Verdict.{Verdict, accepted, refused, verdict}
 abbrev T : List ℕ → Office
 T corners = office (0 ∷ 4 ∷ 0 ∷ []) (0 ∷ 0 ∷ 3 ∷ []) corners
 
-abbrev square : List ℕ → Office
+abbrev pub square : List ℕ → Office
 square corners = office (0 ∷ 10 ∷ 10 ∷ 0 ∷ []) (0 ∷ 0 ∷ 10 ∷ 10 ∷ []) corners
 
 -- T, the printed office and case 4; then cases 5 to 12

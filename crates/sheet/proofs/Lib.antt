@@ -48,6 +48,7 @@ pub mod Lens
 pub mod Coincide
 pub mod Reordered
 pub mod Alone
+pub mod Ambiguity
 pub mod Convex
 pub mod Low
 pub mod Outermost
