@@ -18,9 +18,6 @@ use Rattle.sheet.specs.Renumbered.{Renumbered}
 use Rattle.sheet.proofs.Side.{triangle-below, OneOf, same-triangle, head-next, head-last, apex-next, apex-last}
 use Rattle.sheet.proofs.Coincide.{Twin, Holds}
 
-pub twin-back : {o n : Office} {s r : ℕ} → Twin o n s r → Twin n o r s
-twin-back t = record { tails = sym (t .tails); heads = sym (t .heads); apexes = sym (t .apexes) }
-
 module _ {o n : Office} {s r : ℕ} (t : Twin o n s r) where
   twin-next : Twin o n (next s) (next r)
   twin-next = record { tails = t .heads; heads = head-next o s ∙ t .apexes ∙ sym (head-next n r); apexes = apex-next o s ∙ t .tails ∙ sym (apex-next n r) }
