@@ -33,6 +33,10 @@ pub mod Between
 pub mod Near
 pub mod Meet
 pub mod Facing
+pub mod Edge
+pub mod Circuit
+pub mod Spin
+pub mod Pierced
 pub mod Share
 pub mod Inner
 pub mod Aim
