@@ -37,6 +37,7 @@ pub mod Edge
 pub mod Circuit
 pub mod Spin
 pub mod Pierced
+pub mod Wound
 pub mod Share
 pub mod Inner
 pub mod Aim

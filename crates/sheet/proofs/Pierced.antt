@@ -127,10 +127,10 @@ module _ (p : Point) (wx wy : ℤ) where
 
   -- it goes somewhere
   pub moves : (a b c : Point) → Pos (leaves a b c) → wx ≡ pos 0 → wy ≡ pos 0 → ⊥
+  unfolding level
   moves a b c s e d = all-low a b c (level-zero a) (level-zero b) (level-zero c) s
     where
       level-zero : (q : Point) → Non (opp (L q))
-      unfolding level
       level-zero q = record { by = 0; is = ap₂ (λ i j. opp (i *ℤ dy p q -ℤ j *ℤ dx p q)) e d ∙ solve (k (pos 0) :- (k (pos 0) :* v 0 :- k (pos 0) :* v 1)) (k (pos 0)) (dy p q ∷ dx p q ∷ []) tt }
 
 -- ---- towards the middle of a triangle that has the point in it
@@ -170,6 +170,7 @@ module _ (p a b c : Point) (h : Covers p a b c) (area : Pos (turn p a b +ℤ tur
   more x y z n e g = pos-is (solve (v 0 :- v 1 :+ v 1) (v 0) (x ∷ y ∷ []) tt) (pos-add (pos-is e g) n)
 
   pub aim : Aim
+  unfolding level
   aim = step (either (M a)) (either (M b)) (either (M c))
     where
       x : Non (C p wx wy a b)
@@ -189,11 +190,10 @@ module _ (p a b c : Point) (h : Covers p a b c) (area : Pos (turn p a b +ℤ tur
 
       -- the middle itself is strictly inside, and to the right is as good as any
       middle : Non (opp (M a)) → Non (opp (M b)) → Non (opp (M c)) → Aim
-      unfolding level
       middle f g l =
           let ab : Pos (turn p a b) = (large (turn p a b) (turn p b c) (turn p c a) area (non-is (ap opp level-a) f) (non-is (ap opp level-c) l)) in
-          let bc : Pos (turn p b c) = (large (turn p b c) (turn p c a) (turn p a b) (pos-is (turned _ _ _) area) (non-is (ap opp level-b) g) (non-is (ap opp level-a) f)) in
-          let ca : Pos (turn p c a) = (large (turn p c a) (turn p a b) (turn p b c) (pos-is (turned _ _ _ ∙ turned _ _ _) area) (non-is (ap opp level-c) l) (non-is (ap opp level-b) g)) in
+          let bc : Pos (turn p b c) = (large (turn p b c) (turn p c a) (turn p a b) (pos-is (turned (turn p a b) (turn p b c) (turn p c a)) area) (non-is (ap opp level-b) g) (non-is (ap opp level-a) f)) in
+          let ca : Pos (turn p c a) = (large (turn p c a) (turn p a b) (turn p b c) (pos-is (turned (turn p a b) (turn p b c) (turn p c a) ∙ turned (turn p b c) (turn p c a) (turn p a b)) area) (non-is (ap opp level-c) l) (non-is (ap opp level-b) g)) in
           (pos 1, pos 0, left-through p (pos 1) (pos 0) (spot (p .x) (p .y + 1)) a b c (record { by = 0; is = solve (k (pos 1) :* (v 0 :+ k (pos 1) :- v 0) :- k (pos 0) :* v 1) (k (pos 1)) (pos (p .y) ∷ dx p p ∷ []) tt }) ab bc ca)
         where
           turned : (i j l : ℤ) → i +ℤ j +ℤ l ≡ j +ℤ l +ℤ i
