@@ -35,16 +35,16 @@ module _ (p : Point) where
     abbrev C : Point → Point → ℤ
     C = cross p wx wy
 
-    high : (a b : Point) → Pos (L a) → Pos (L b) → C a b ≡ pos 0
+    pub high : (a b : Point) → Pos (L a) → Pos (L b) → C a b ≡ pos 0
     high a b x y = cross-view p wx wy a b (λ z. z ≡ pos 0) (λ e. both x (e .from)) (λ l. both y (l .to)) refl
 
-    low : (a b : Point) → Non (opp (L a)) → Non (opp (L b)) → C a b ≡ pos 0
+    pub low : (a b : Point) → Non (opp (L a)) → Non (opp (L b)) → C a b ≡ pos 0
     low a b x y = cross-view p wx wy a b (λ z. z ≡ pos 0) (λ e. both (e .to) y) (λ l. both (l .from) x) refl
 
-    enters : (a b : Point) → Non (opp (L a)) → Pos (L b) → Pos (turn p a b) → C a b ≡ pos 1
+    pub enters : (a b : Point) → Non (opp (L a)) → Pos (L b) → Pos (turn p a b) → C a b ≡ pos 1
     enters a b x y t = cross-enters p wx wy a b (record { from = x; to = y; left = t })
 
-    passes : (a b : Point) → Non (opp (L a)) → Pos (L b) → Non (opp (turn p a b)) → C a b ≡ pos 0
+    pub passes : (a b : Point) → Non (opp (L a)) → Pos (L b) → Non (opp (turn p a b)) → C a b ≡ pos 0
     passes a b x y t = cross-view p wx wy a b (λ z. z ≡ pos 0) (λ e. both (e .left) t) (λ l. both y (l .to)) refl
 
     -- across the line of the ray, but not through p
