@@ -4,19 +4,18 @@
 use mathlib.Core.Path.{_≡_, refl, sym, ap, ap₂, subst₂, _∙_}
 use mathlib.Core.Logic.{_↔_, _⊎_, inl, inr}
 use mathlib.Core.Bool.{Bool, true, false}
-use mathlib.Core.List.{List, [], _∷_}
-use Prim.Native.Nat.{ℕ, _+_, _*_, _/_, _%_, _<_}
+use mathlib.Core.List.{List}
+use Prim.Native.Nat.{ℕ, _+_, _*_, _/_, _<_}
 use native.Mathlib.Omega.{arith}
 use lib.Dec.{eqb}
 use lib.ListN.{length, getD}
-use lib.IntN.{ℤ, pos, _-ℤ_}
-use Rattle.laws.proofs.Solve.{v, k as number, _:+_, _:-_, solve}
+use lib.IntN.{ℤ, pos}
 use Rattle.laws.proofs.Test.{false-iff, eqb-iff, any-iff, same-answer}
 use Rattle.laws.proofs.Round.{early}
 use Rattle.sheet.specs.Plane.{Point}
-use Rattle.sheet.specs.Office.{Office, sides, triangles, point, tail, head}
+use Rattle.sheet.specs.Office.{Office, sides, point, tail, head}
 use Rattle.sheet.specs.Acceptable.{Acceptable}
-use Rattle.sheet.proofs.Sign.{Pos, Non, opp, non-is, non-add, pos-less, either, both, exact, out-less}
+use Rattle.sheet.proofs.Sign.{Pos, Non, opp, either, both}
 use Rattle.sheet.proofs.Total.{total, total-same}
 use Rattle.sheet.proofs.Side.{own-triangle}
 use Rattle.sheet.proofs.Tiling.{Even}
@@ -26,7 +25,7 @@ use Rattle.sheet.proofs.Mesh.{triples}
 use Rattle.sheet.proofs.Circuit.{along}
 use Rattle.sheet.proofs.Ray.{cross, cross-anti}
 use Rattle.sheet.proofs.Spin.{around-by}
-use Rattle.sheet.proofs.Wound.{not-below, once-at-most, left-held, held-left}
+use Rattle.sheet.proofs.Wound.{left-once, not-left, left-held, held-left}
 use Rattle.rim.specs.Peel.{mark, kept, rim, ring, drawn}
 use Rattle.rim.specs.Reached.{Reached}
 use Rattle.rim.proofs.Marks.{rim-iff}
@@ -58,7 +57,7 @@ module _ {o : Office} {n : ℕ} {k : List ℕ} (a : Acceptable o) (r : Reached o
 
   -- how often a ray to the right leaves the kept triangles
   abbrev W : ℤ
-  W = around-by o (tiling a) (kept o k) (kept-even o k) (rim o k) (border-iff o k) z (pos 1) (pos 0)
+  W = around-by o (kept o k) z (pos 1) (pos 0)
 
   abbrev F : ℕ → ℕ → ℤ
   F i j = cross z (pos 1) (pos 0) (point o i) (point o j)
@@ -73,19 +72,13 @@ module _ {o : Office} {n : ℕ} {k : List ℕ} (a : Acceptable o) (r : Reached o
       ∙ sym (border-total o (kept o k) F (λ i j. cross-anti z (pos 1) (pos 0) (point o i) (point o j)) (a .single) (rim o k) (border-iff o k))
       ∙ triples o (tiling a) (kept o k) F (kept-even o k)
 
-  once : Pos W → W ≡ pos 1
-  once p = out-less (exact (pos-less p) (λ q. both q (non-is (solve (number (pos 1) :- v 0) (number (pos 0) :- (v 0 :- number (pos 1))) (W ∷ []) tt) (once-at-most o (tiling a) (kept o k) (kept-even o k) (rim o k) (border-iff o k) z))))
-
-  not-once : (Pos W → ⊥) → W ≡ pos 0
-  not-once = exact (not-below o (tiling a) (kept o k) (kept-even o k) (rim o k) (border-iff o k) z)
-
   -- on the outline or not, once or not at all
   pub once-or-never : (winding o (ring o k) z ≡ pos 1) ⊎ (winding o (ring o k) z ≡ pos 0)
   once-or-never = step (either W)
     where
       step : Pos W ⊎ Non (opp W) → (winding o (ring o k) z ≡ pos 1) ⊎ (winding o (ring o k) z ≡ pos 0)
-      step (inl p) = inl (winding-is ∙ once p)
-      step (inr p) = inr (winding-is ∙ not-once (λ q. both q p))
+      step (inl p) = inl (winding-is ∙ left-once o (tiling a) (kept o k) z p)
+      step (inr p) = inr (winding-is ∙ not-left o (tiling a) (kept o k) z (λ q. both q p))
 
   -- once round a point in the area that is not on the outline, and not at all round a point outside
   pub goes-round : on-outline o k z ≡ false → winding o (ring o k) z ≡ pos (mark (in-area o k z))
@@ -94,11 +87,11 @@ module _ {o : Office} {n : ℕ} {k : List ℕ} (a : Acceptable o) (r : Reached o
       step : (b : Bool) → in-area o k z ≡ b → W ≡ pos (mark b)
       step true e =
           let (t, l, x, y) = in-area-iff o z k .0 e in
-          once (held-left o (tiling a) (kept o k) (kept-even o k) (rim o k) (border-iff o k) z
+          left-once o (tiling a) (kept o k) z (held-left o (tiling a) (kept o k) z (kept-even o k) (rim o k) (border-iff o k)
           (λ s b c d m. false-iff .0 off (on-outline-iff o z k .1 (s, b, c, (d, m))))
           t l (eqb-iff .1 (ap (λ i. getD k i 0) (own-triangle t) ∙ x)) y)
-      step false e = not-once (λ p.
-          let (t, l, x, y) = left-held o (tiling a) (kept o k) (kept-even o k) (rim o k) (border-iff o k) z p in
+      step false e = not-left o (tiling a) (kept o k) z (λ p.
+          let (t, l, x, y) = left-held o (tiling a) (kept o k) z p in
           false-iff .0 e (in-area-iff o z k .1 (t, l, ap (λ i. getD k i 0) (sym (own-triangle t)) ∙ eqb-iff .0 x, y)))
 
   pub crosses-odd : on-outline o k z ≡ false → odd (crossings o (ring o k) z) ≡ in-area o k z

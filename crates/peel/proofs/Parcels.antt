@@ -1,5 +1,5 @@
 -- Where a point of the grid lies, in plain logic. On the outline is in the area, and so are the office's own points. Assumes nothing.
-use mathlib.Core.Path.{_≡_, refl, sym, ap, subst, _∙_}
+use mathlib.Core.Path.{_≡_, sym, subst, _∙_}
 use mathlib.Core.Logic.{_↔_}
 use mathlib.Core.Bool.{true, _&&_}
 use mathlib.Core.List.{List, [], _∷_}
@@ -10,7 +10,7 @@ use lib.IntN.{pos, _+ℤ_, _*ℤ_}
 use Rattle.laws.proofs.Solve.{v, k as number, _:+_, _:-_, _:*_, solve}
 use Rattle.laws.proofs.Test.{plain, and-iff, any-iff, eqb-iff}
 use Rattle.sheet.specs.Plane.{Point, dx, dy, turn}
-use Rattle.sheet.specs.Office.{Office, points, sides, triangles, point, tail, head, apex}
+use Rattle.sheet.specs.Office.{Office, points, sides, triangles, point, tail, head}
 use Rattle.sheet.specs.Acceptable.{Acceptable}
 use Rattle.sheet.proofs.Sign.{Non, opp, non-is, non-zero, never, exact, less-pos, more-pos, not-less, non-less}
 use Rattle.sheet.proofs.Cross.{turn-cycle, turn-self}
@@ -45,11 +45,11 @@ opposite a b z =
 pub on-way-iff : (a b z : Point) → (on-way a b z ≡ true) ↔ On z a b
 on-way-iff a b z = (
   (λ e.
-  let h = simp plain at e in
-  (turn-cycle z a b ∙ exact (not-less _ (h .0 .0)) (λ p. h .0 .1 (more-pos p)), non-is (opposite a b z) (not-less _ (h .1)))),
+      let h = simp plain at e in
+      (turn-cycle z a b ∙ exact (not-less _ (h .0 .0)) (λ p. h .0 .1 (more-pos p)), non-is (opposite a b z) (not-less _ (h .1)))),
   (λ h.
-  let e = sym (turn-cycle z a b) ∙ h .0 in
-  simp plain ((non-less (non-zero e), λ l. never (less-pos _ l) e), non-less (non-is (sym (opposite a b z)) (h .1)))),
+      let e = sym (turn-cycle z a b) ∙ h .0 in
+      simp plain ((non-less (non-zero e), λ l. never (less-pos _ l) e), non-less (non-is (sym (opposite a b z)) (h .1)))),
 )
 
 module _ (o : Office) (z : Point) where
@@ -60,9 +60,9 @@ module _ (o : Office) (z : Point) where
   pub within-iff : (t : ℕ) → (within o t z ≡ true) ↔ In t
   within-iff t = (
     (λ e.
-    let (h, w) = and-iff {a = not-right (point o (tail o (t * 3))) (point o (tail o (t * 3 + 1))) z && not-right (point o (tail o (t * 3 + 1))) (point o (tail o (t * 3 + 2))) z} .0 e in
-    let (x, y) = and-iff {a = not-right (point o (tail o (t * 3))) (point o (tail o (t * 3 + 1))) z} .0 h in
-    (not-right-iff _ _ z .0 x, not-right-iff _ _ z .0 y, not-right-iff _ _ z .0 w)),
+        let (h, w) = and-iff {a = not-right (point o (tail o (t * 3))) (point o (tail o (t * 3 + 1))) z && not-right (point o (tail o (t * 3 + 1))) (point o (tail o (t * 3 + 2))) z} .0 e in
+        let (x, y) = and-iff {a = not-right (point o (tail o (t * 3))) (point o (tail o (t * 3 + 1))) z} .0 h in
+        (not-right-iff _ _ z .0 x, not-right-iff _ _ z .0 y, not-right-iff _ _ z .0 w)),
     (λ h. and-iff .1 (and-iff .1 (not-right-iff _ _ z .1 (h .0), not-right-iff _ _ z .1 (h .1)), not-right-iff _ _ z .1 (h .2))),
   )
 
@@ -71,9 +71,9 @@ module _ (o : Office) (z : Point) where
     unfolding in-area
     in-area-iff = (
       (λ e.
-      let (t, l, h) = any-iff {test = λ t. eqb (getD k t 0) 1 && within o t z} .0 e in
-      let (x, y) = and-iff {a = eqb (getD k t 0) 1} .0 h in
-      (t, l, eqb-iff .0 x, within-iff t .0 y)),
+          let (t, l, h) = any-iff {test = λ t. eqb (getD k t 0) 1 && within o t z} .0 e in
+          let (x, y) = and-iff {a = eqb (getD k t 0) 1} .0 h in
+          (t, l, eqb-iff .0 x, within-iff t .0 y)),
       (λ (t, l, x, y). any-iff .1 (t, l, and-iff .1 (eqb-iff .1 x, within-iff t .1 y))),
     )
 
@@ -81,9 +81,9 @@ module _ (o : Office) (z : Point) where
     unfolding on-outline
     on-outline-iff = (
       (λ e.
-      let (s, l, h) = any-iff {test = λ s. rim o k s && along o s z} .0 e in
-      let (x, y) = and-iff {a = rim o k s} .0 h in
-      (s, l, x, on-way-iff _ _ z .0 y)),
+          let (s, l, h) = any-iff {test = λ s. rim o k s && along o s z} .0 e in
+          let (x, y) = and-iff {a = rim o k s} .0 h in
+          (s, l, x, on-way-iff _ _ z .0 y)),
       (λ (s, l, x, y). any-iff .1 (s, l, and-iff .1 (x, on-way-iff _ _ z .1 y))),
     )
 
