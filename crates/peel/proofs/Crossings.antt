@@ -19,7 +19,7 @@ use Rattle.sheet.proofs.Sign.{Pos, Non, opp, twice, pos-is, non-is, either, les
 use Rattle.sheet.proofs.Total.{total, total-same}
 use Rattle.sheet.proofs.Cross.{turn-cycle, turn-swap}
 use Rattle.sheet.proofs.Ray.{level, cross, cross-anti}
-use Rattle.sheet.proofs.Spin.{high, low, enters, passes}
+use Rattle.sheet.proofs.Crossed.{high, low, enters, passes}
 use Rattle.rim.specs.Peel.{mark}
 use Rattle.peel.specs.Parcel.{above, rises, falls, odd, corner, crossings, winding}
 

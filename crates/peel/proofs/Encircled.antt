@@ -13,7 +13,7 @@ use lib.IntN.{ℤ, pos}
 use Rattle.laws.proofs.Test.{false-iff, eqb-iff, any-iff, same-answer}
 use Rattle.laws.proofs.Round.{early}
 use Rattle.sheet.specs.Plane.{Point}
-use Rattle.sheet.specs.Office.{Office, sides, point, tail, head}
+use Rattle.sheet.specs.Office.{Office, points, sides, point, tail, head}
 use Rattle.sheet.specs.Acceptable.{Acceptable}
 use Rattle.sheet.proofs.Sign.{Pos, Non, opp, either, both}
 use Rattle.sheet.proofs.Total.{total, total-same}
@@ -24,7 +24,7 @@ use Rattle.sheet.proofs.Cancel.{Border, border-total}
 use Rattle.sheet.proofs.Mesh.{triples}
 use Rattle.sheet.proofs.Circuit.{along}
 use Rattle.sheet.proofs.Ray.{cross, cross-anti}
-use Rattle.sheet.proofs.Spin.{around-by}
+use Rattle.sheet.proofs.AnyWay.{around-by}
 use Rattle.sheet.proofs.Wound.{left-once, not-left, left-held, held-left}
 use Rattle.rim.specs.Peel.{mark, kept, rim, ring, drawn}
 use Rattle.rim.specs.Reached.{Reached}
@@ -34,7 +34,7 @@ use Rattle.rim.proofs.Rings.{outlined, ring-length}
 use Rattle.peel.specs.Parcel.{on-way, in-area, on-outline, told, place, odd, corner, crossings, winding, on-ring, ring-place}
 use Rattle.peel.proofs.DrawEnds.{drawn-ends}
 use Rattle.peel.proofs.Simple.{reads, side}
-use Rattle.peel.proofs.Parcels.{On, on-way-iff, in-area-iff, on-outline-iff}
+use Rattle.peel.proofs.Parcels.{On, on-way-iff, in-area-iff, on-outline-iff, own-points}
 use Rattle.peel.proofs.Crossings.{winding-total, odd-is}
 
 module _ (o : Office) (k : List ℕ) where
@@ -120,6 +120,9 @@ module _ {o : Office} {n : ℕ} {k : List ℕ} (a : Acceptable o) (r : Reached o
       step true e = refl
       step false e = ap (told false) (sym (crosses-odd e))
 
--- of every draw
+-- of every draw; and no limit leaves a point of the office outside
 pub drawn-place : {o : Office} → Acceptable o → (limit : ℕ) (z : Point) → place o (drawn o limit) z ≡ ring-place o (ring o (drawn o limit)) z
 drawn-place a limit z = let (m, l, c, d) = drawn-ends a limit in place-by-ring a c z
+
+pub drawn-own-points : {o : Office} → Acceptable o → (limit p : ℕ) → p < points o → in-area o (drawn o limit) (point o p) ≡ true
+drawn-own-points a limit = let (m, l, c, d) = drawn-ends a limit in own-points a c

@@ -72,6 +72,9 @@ module _ (o : Office) where
   pub fewer-area : (j k : List ℕ) → Fewer j k → (z : Point) → in-area o j z ≡ true → in-area o k z ≡ true
   fewer-area j k f z e = let (t, l, x, y) = in-area-iff o z j .0 e in in-area-iff o z k .1 (t, l, f t x, y)
 
+  pub area-shrinks : (small large : ℕ) → small ≤ large → (z : Point) → in-area o (drawn o small) z ≡ true → in-area o (drawn o large) z ≡ true
+  area-shrinks small large l = fewer-area (drawn o small) (drawn o large) (drawn-shrinks small large l)
+
 module _ {o : Office} (a : Acceptable o) (z : Point) where
   -- outside is where it is not in the area
   pub outside-iff : (k : List ℕ) → (place o k z ≡ 0) ↔ (in-area o k z ≡ false)

@@ -35,8 +35,11 @@ pub mod Meet
 pub mod Facing
 pub mod Edge
 pub mod Circuit
+pub mod Crossed
 pub mod Spin
+pub mod AnyWay
 pub mod Pierced
+pub mod Middle
 pub mod Wound
 pub mod Share
 pub mod Inner

@@ -1,21 +1,16 @@
--- Which way a ray goes does not matter: between two directions, the crossings of a way from a to b that does not pass through the ray's
--- start differ by whether a and b lie in the sector from the one direction to the other; along a border these differences cancel. Assumes nothing.
+-- Between two directions of a ray, the crossings of a way from a to b that does not pass through the ray's start differ by whether a and b lie in
+-- the sector from the one direction to the other. Assumes nothing.
 use mathlib.Core.Path.{_≡_, refl, sym, _∙_, ap, ap₂}
-use mathlib.Core.Bool.{Bool, true, false, cond}
-use mathlib.Core.Logic.{_↔_, _⊎_, inl, inr}
+use mathlib.Core.Logic.{_⊎_, inl, inr}
 use mathlib.Core.List.{List, [], _∷_}
-use Prim.Native.Nat.{ℕ, _+_, _*_, _<_}
-use lib.IntN.{ℤ, pos, negsuc, _+ℤ_, _-ℤ_, _*ℤ_, +ℤ-idr, *ℤ-comm}
+use Prim.Native.Nat.{ℕ}
+use lib.IntN.{ℤ, pos, negsuc, _+ℤ_, _-ℤ_, _*ℤ_, *ℤ-comm}
 use Rattle.laws.proofs.Solve.{Ex, v, k, _:+_, _:-_, _:*_, solve}
 use Rattle.sheet.specs.Plane.{Point, dx, dy, turn}
-use Rattle.sheet.specs.Office.{Office, sides, triangles, point, tail, head}
-use Rattle.sheet.proofs.Sign.{loose, strict, exactly, Pos, Non, Sign, above, null, under, sign, opp, weak, pos-is, non-is, either, both, less-out, Up, At, _·_, _⊗_, _⊕_, _⊙_, lax, clash}
-use Rattle.sheet.proofs.Total.{total, total-same, total-add, total-zero}
-use Rattle.sheet.proofs.Tiling.{Tiling, Even}
-use Rattle.sheet.proofs.Cancel.{Border, border-total}
-use Rattle.sheet.proofs.Mesh.{triple, triples}
+use Rattle.sheet.proofs.Sign.{loose, strict, exactly, Pos, Non, Sign, above, null, under, sign, opp, weak, pos-is, non-is, either, less-out, Up, At, _·_, _⊗_, _⊕_, _⊙_, lax, clash}
 use Rattle.sheet.proofs.Cross.{crossE, turn-swap}
-use Rattle.sheet.proofs.Ray.{level, cross, cross-view, cross-anti, cross-enters}
+use Rattle.sheet.proofs.Ray.{level, cross, cross-anti}
+use Rattle.sheet.proofs.Crossed.{high, low, enters, passes}
 use Rattle.sheet.proofs.Line.{less}
 use Rattle.sheet.proofs.Facing.{dot, dot-own}
 
@@ -31,21 +26,6 @@ module _ (p : Point) where
   module _ (wx wy : ℤ) where
     abbrev L : Point → ℤ
     L q = level p wx wy q
-
-    abbrev C : Point → Point → ℤ
-    C = cross p wx wy
-
-    pub high : (a b : Point) → Pos (L a) → Pos (L b) → C a b ≡ pos 0
-    high a b x y = cross-view p wx wy a b (λ z. z ≡ pos 0) (λ e. both x (e .from)) (λ l. both y (l .to)) refl
-
-    pub low : (a b : Point) → Non (opp (L a)) → Non (opp (L b)) → C a b ≡ pos 0
-    low a b x y = cross-view p wx wy a b (λ z. z ≡ pos 0) (λ e. both (e .to) y) (λ l. both (l .from) x) refl
-
-    pub enters : (a b : Point) → Non (opp (L a)) → Pos (L b) → Pos (turn p a b) → C a b ≡ pos 1
-    enters a b x y t = cross-enters p wx wy a b (record { from = x; to = y; left = t })
-
-    pub passes : (a b : Point) → Non (opp (L a)) → Pos (L b) → Non (opp (turn p a b)) → C a b ≡ pos 0
-    passes a b x y t = cross-view p wx wy a b (λ z. z ≡ pos 0) (λ e. both (e .left) t) (λ l. both y (l .to)) refl
 
     -- across the line of the ray, but not through p
     spun : (a b : Point) → dot p b b *ℤ L a ≡ L b *ℤ dot p a b -ℤ turn p a b *ℤ (wx *ℤ dx p b +ℤ wy *ℤ dy p b)
@@ -123,21 +103,21 @@ module _ (p : Point) where
       told m n x y e f g = e ∙ g ∙ ap (λ i. i +ℤ (n -ℤ m)) (sym f)
 
       within-ahead : Pos (Lu a) → Non (opp (Lv a)) → Pos (Lu b) → Pos (Lv b) → Differs (pos 1) (pos 0)
-      within-ahead x y z w = told (pos 1) (pos 0) (pos 0) (pos 1) (high ux uy a b x z) (enters vx vy a b y w (step (either T))) refl
+      within-ahead x y z w = told (pos 1) (pos 0) (pos 0) (pos 1) (high p ux uy a b x z) (enters p vx vy a b y w (step (either T))) refl
         where
           step : Pos T ⊎ Non (opp T) → Pos T
           step (inl t) = t
           step (inr t) = clash {ρ = ρ} (strict (v 0) x · strict (v 3) w) (lax (strict (v 2) z) ⊗ loose (minus 1) y ⊕ lax left₁ ⊗ loose (minus 5) t ⊕ k (pos 1) ⊙ eq) tt
 
       across-ahead : Non (opp (Lu a)) → Pos (Lv a) → Pos (Lu b) → Pos (Lv b) → Differs (pos 0) (pos 0)
-      across-ahead x y z w = told (pos 0) (pos 0) (pos 0) (pos 0) (passes ux uy a b x z (step (either T))) (high vx vy a b y w) refl
+      across-ahead x y z w = told (pos 0) (pos 0) (pos 0) (pos 0) (passes p ux uy a b x z (step (either T))) (high p vx vy a b y w) refl
         where
           step : Pos T ⊎ Non (opp T) → Non (opp T)
           step (inl t) = clash {ρ = ρ} (left₁ · strict (v 5) t) (loose (minus 0) x ⊗ lax (strict (v 3) w) ⊕ lax (strict (v 2) z) ⊗ lax (strict (v 1) y) ⊕ less ⊙ eq) tt
           step (inr t) = t
 
       behind-across : Non (opp (Lu a)) → Non (opp (Lv a)) → Non (opp (Lu b)) → Pos (Lv b) → Differs (pos 0) (pos 0)
-      behind-across x y z w = told (pos 0) (pos 0) (pos 0) (pos 0) (low ux uy a b x z) (passes vx vy a b y w (step (either T))) refl
+      behind-across x y z w = told (pos 0) (pos 0) (pos 0) (pos 0) (low p ux uy a b x z) (passes p vx vy a b y w (step (either T))) refl
         where
           step : Pos T ⊎ Non (opp T) → Non (opp T)
           step (inl t) = clash {ρ = ρ} (left₁ · strict (v 5) t) (loose (minus 0) x ⊗ lax (strict (v 3) w) ⊕ loose (minus 2) z ⊗ loose (minus 1) y ⊕ less ⊙ eq) tt
@@ -147,13 +127,13 @@ module _ (p : Point) where
       behind-ahead x y z w = step (either T)
         where
           step : Pos T ⊎ Non (opp T) → Differs (pos 0) (pos 0)
-          step (inl t) = told (pos 0) (pos 0) (pos 1) (pos 1) (enters ux uy a b x z t) (enters vx vy a b y w t) refl
-          step (inr t) = told (pos 0) (pos 0) (pos 0) (pos 0) (passes ux uy a b x z t) (passes vx vy a b y w t) refl
+          step (inl t) = told (pos 0) (pos 0) (pos 1) (pos 1) (enters p ux uy a b x z t) (enters p vx vy a b y w t) refl
+          step (inr t) = told (pos 0) (pos 0) (pos 0) (pos 0) (passes p ux uy a b x z t) (passes p vx vy a b y w t) refl
 
       -- here the way could pass through p
       module _ (off : Off a b) where
         behind-within : Non (opp (Lu a)) → Non (opp (Lv a)) → Pos (Lu b) → Non (opp (Lv b)) → Differs (pos 0) (pos 1)
-        behind-within x y z w = told (pos 0) (pos 1) (pos 1) (pos 0) (enters ux uy a b x z (step (sign T))) (low vx vy a b y w) refl
+        behind-within x y z w = told (pos 0) (pos 1) (pos 1) (pos 0) (enters p ux uy a b x z (step (sign T))) (low p vx vy a b y w) refl
           where
             step : Sign T → Pos T
             step (above t) = t
@@ -167,9 +147,9 @@ module _ (p : Point) where
             falls c e = cross-anti p vx vy a b ∙ ap opp e
 
             step : Sign T → Differs (pos 0) (pos 1)
-            step (above t) = told (pos 0) (pos 1) (pos 1) (pos 0) (enters ux uy a b x z t) (falls (pos 0) (passes vx vy b a w y (weak (pos-is (turn-swap p a b) t)))) refl
+            step (above t) = told (pos 0) (pos 1) (pos 1) (pos 0) (enters p ux uy a b x z t) (falls (pos 0) (passes p vx vy b a w y (weak (pos-is (turn-swap p a b) t)))) refl
             step (null e) = absurd (aside ux uy a b off x z e)
-            step (under t) = told (pos 0) (pos 1) (pos 0) (negsuc 0) (passes ux uy a b x z (weak t)) (falls (pos 1) (enters vx vy b a w y (pos-is (sym (turn-swap p b a)) t))) refl
+            step (under t) = told (pos 0) (pos 1) (pos 0) (negsuc 0) (passes p ux uy a b x z (weak t)) (falls (pos 1) (enters p vx vy b a w y (pos-is (sym (turn-swap p b a)) t))) refl
 
     back : (a b : Point) (m n : ℤ) → Differs b a n m → Differs a b m n
     back a b m n e =
@@ -185,74 +165,19 @@ module _ (p : Point) where
         same m e f = told a b m m (pos 0) (pos 0) e f (solve (k (pos 0)) (k (pos 0) :+ (v 0 :- v 0)) (m ∷ []) tt)
 
         step : (x : Spot a) (y : Spot b) → Differs a b (mark x) (mark y)
-        step (within x y) (within z w) = same (pos 1) (high ux uy a b x z) (low vx vy a b y w)
+        step (within x y) (within z w) = same (pos 1) (high p ux uy a b x z) (low p vx vy a b y w)
         step (within x y) (ahead z w) = within-ahead a b x y z w
         step (within x y) (across z w) = back a b (pos 1) (pos 0) (across-within b a (off-back a b off) z w x y)
         step (within x y) (behind z w) = back a b (pos 1) (pos 0) (behind-within b a (off-back a b off) z w x y)
         step (ahead x y) (within z w) = back a b (pos 0) (pos 1) (within-ahead b a z w x y)
-        step (ahead x y) (ahead z w) = same (pos 0) (high ux uy a b x z) (high vx vy a b y w)
+        step (ahead x y) (ahead z w) = same (pos 0) (high p ux uy a b x z) (high p vx vy a b y w)
         step (ahead x y) (across z w) = back a b (pos 0) (pos 0) (across-ahead b a z w x y)
         step (ahead x y) (behind z w) = back a b (pos 0) (pos 0) (behind-ahead b a z w x y)
         step (across x y) (within z w) = across-within a b off x y z w
         step (across x y) (ahead z w) = across-ahead a b x y z w
-        step (across x y) (across z w) = same (pos 0) (low ux uy a b x z) (high vx vy a b y w)
+        step (across x y) (across z w) = same (pos 0) (low p ux uy a b x z) (high p vx vy a b y w)
         step (across x y) (behind z w) = back a b (pos 0) (pos 0) (behind-across b a z w x y)
         step (behind x y) (within z w) = behind-within a b off x y z w
         step (behind x y) (ahead z w) = behind-ahead a b x y z w
         step (behind x y) (across z w) = behind-across a b x y z w
-        step (behind x y) (behind z w) = same (pos 0) (low ux uy a b x z) (low vx vy a b y w)
-
--- how often a ray from p leaves the triangles N
-abbrev pub around-by : Office → (ℕ → Bool) → Point → ℤ → ℤ → ℤ
-around-by o N p wx wy = total (λ t. cond (N (t * 3)) (triple o (λ i j. cross p wx wy (point o i) (point o j)) t) (pos 0)) (triangles o)
-
--- ---- along the border B of the triangles N, which p does not lie on
-module _ (o : Office) (τ : Tiling o) (N : ℕ → Bool) (even : Even N) (B : ℕ → Bool) (border : (s : ℕ) → s < sides o → (B s ≡ true) ↔ Border o N s) (p : Point)
-    (off : (s : ℕ) → s < sides o → B s ≡ true → Off p (point o (tail o s)) (point o (head o s))) where
-  abbrev F : ℤ → ℤ → ℕ → ℕ → ℤ
-  F wx wy i j = cross p wx wy (point o i) (point o j)
-
-  abbrev W : ℤ → ℤ → ℤ
-  W wx wy = around-by o N p wx wy
-
-  one-turn : (ux uy vx vy : ℤ) → Pos (ux *ℤ vy -ℤ uy *ℤ vx) → W ux uy ≡ W vx vy
-  one-turn ux uy vx vy left =
-      total-same _ _ (triangles o) (λ t l. split (N (t * 3)) _ _ _ (parts (tail o (t * 3)) (tail o (t * 3 + 1)) (tail o (t * 3 + 2))))
-      ∙ total-add _ _ (triangles o)
-      ∙ ap (λ z. W vx vy +ℤ z) (sym (triples o τ N G even) ∙ border-total o N G anti (τ .single) B border ∙ total-zero _ (sides o) (λ s l. gone s l (B s) refl))
-      ∙ +ℤ-idr (W vx vy)
-    where
-      φ : ℕ → ℤ
-      φ i = sector p ux uy vx vy left (point o i)
-
-      G : ℕ → ℕ → ℤ
-      G i j = F ux uy i j -ℤ (F vx vy i j +ℤ (φ j -ℤ φ i))
-
-      anti : (i j : ℕ) → G i j ≡ opp (G j i)
-      anti i j =
-          ap₂ (λ x y. x -ℤ (y +ℤ (φ j -ℤ φ i))) (cross-anti p ux uy (point o i) (point o j)) (cross-anti p vx vy (point o i) (point o j))
-          ∙ solve (k (pos 0) :- v 0 :- (k (pos 0) :- v 1 :+ (v 3 :- v 2))) (k (pos 0) :- (v 0 :- (v 1 :+ (v 2 :- v 3)))) (F ux uy j i ∷ F vx vy j i ∷ φ i ∷ φ j ∷ []) tt
-
-      parts : (i j l : ℕ) → F ux uy i j +ℤ F ux uy j l +ℤ F ux uy l i ≡ F vx vy i j +ℤ F vx vy j l +ℤ F vx vy l i +ℤ (G i j +ℤ G j l +ℤ G l i)
-      parts i j l =
-          solve (v 0 :+ v 1 :+ v 2) (v 3 :+ v 4 :+ v 5 :+ (v 0 :- (v 3 :+ (v 7 :- v 6)) :+ (v 1 :- (v 4 :+ (v 8 :- v 7))) :+ (v 2 :- (v 5 :+ (v 6 :- v 8)))))
-          (F ux uy i j ∷ F ux uy j l ∷ F ux uy l i ∷ F vx vy i j ∷ F vx vy j l ∷ F vx vy l i ∷ φ i ∷ φ j ∷ φ l ∷ []) tt
-
-      split : (b : Bool) (x y z : ℤ) → x ≡ y +ℤ z → cond b x (pos 0) ≡ cond b y (pos 0) +ℤ cond b z (pos 0)
-      split true x y z e = e
-      split false x y z e = refl
-
-      gone : (s : ℕ) → s < sides o → (b : Bool) → B s ≡ b → cond b (G (tail o s) (head o s)) (pos 0) ≡ pos 0
-      gone s l true e = less-out (differs p ux uy vx vy left (point o (tail o s)) (point o (head o s)) (off s l e))
-      gone s l false e = refl
-
-  -- any direction is as good as to the right
-  pub any-way : (wx wy : ℤ) → (wx ≡ pos 0 → wy ≡ pos 0 → ⊥) → W (pos 1) (pos 0) ≡ W wx wy
-  any-way wx wy moves = step (sign wy) (sign wx)
-    where
-      step : Sign wy → Sign wx → W (pos 1) (pos 0) ≡ W wx wy
-      step (above h) s = one-turn (pos 1) (pos 0) wx wy (pos-is (solve (v 1) (k (pos 1) :* v 1 :- k (pos 0) :* v 0) (wx ∷ wy ∷ []) tt) h)
-      step (under h) s = sym (one-turn wx wy (pos 1) (pos 0) (pos-is (solve (k (pos 0) :- v 1) (v 0 :* k (pos 0) :- v 1 :* k (pos 1)) (wx ∷ wy ∷ []) tt) h))
-      step (null e) (null d) = absurd (moves d e)
-      step (null e) (above h) = one-turn (pos 1) (pos 0) (pos 0) (pos 1) (record { by = 0; is = refl }) ∙ sym (one-turn wx wy (pos 0) (pos 1) (pos-is (solve (v 0) (v 0 :* k (pos 1) :- v 1 :* k (pos 0)) (wx ∷ wy ∷ []) tt) h))
-      step (null e) (under h) = one-turn (pos 1) (pos 0) (pos 0) (pos 1) (record { by = 0; is = refl }) ∙ one-turn (pos 0) (pos 1) wx wy (pos-is (solve (k (pos 0) :- v 0) (k (pos 0) :* v 1 :- k (pos 1) :* v 0) (wx ∷ wy ∷ []) tt) h)
+        step (behind x y) (behind z w) = same (pos 0) (low p ux uy a b x z) (low p vx vy a b y w)

@@ -19,8 +19,10 @@ use Rattle.sheet.proofs.Mesh.{triple, triples}
 use Rattle.sheet.proofs.Cross.{turn-split}
 use Rattle.sheet.proofs.Ray.{cross, around}
 use Rattle.sheet.proofs.Wind.{once-around}
-use Rattle.sheet.proofs.Spin.{Off, around-by, any-way}
-use Rattle.sheet.proofs.Pierced.{Covers, left-covers, moves, aim}
+use Rattle.sheet.proofs.Spin.{Off}
+use Rattle.sheet.proofs.AnyWay.{around-by, any-way}
+use Rattle.sheet.proofs.Pierced.{Covers, left-covers, moves}
+use Rattle.sheet.proofs.Middle.{aim}
 
 -- a sum above 0 has something above 0
 total-some : (f : ℕ → ℤ) (n : ℕ) → Pos (total f n) → (i : ℕ) × (i < n) × Pos (f i)
