@@ -27,13 +27,13 @@ module _ (p : Point) where
     abbrev L : Point → ℤ
     L q = level p wx wy q
 
-    -- across the line of the ray, but not through p
     spun : (a b : Point) → dot p b b *ℤ L a ≡ L b *ℤ dot p a b -ℤ turn p a b *ℤ (wx *ℤ dx p b +ℤ wy *ℤ dy p b)
     unfolding turn level
     spun a b =
         solve ((v 2 :* v 2 :+ v 3 :* v 3) :* crossE 4 0) (crossE 4 2 :* (v 0 :* v 2 :+ v 1 :* v 3) :- crossE 0 2 :* (v 4 :* v 2 :+ v 5 :* v 3))
         (dx p a ∷ dy p a ∷ dx p b ∷ dy p b ∷ wx ∷ wy ∷ []) tt
 
+    -- a way across the ray's line that does not pass through p has p on its left or on its right
     aside : (a b : Point) → Off a b → Non (opp (L a)) → Pos (L b) → turn p a b ≡ pos 0 → ⊥
     aside a b off x y e = step (either (dot p a b))
       where
@@ -76,6 +76,7 @@ module _ (p : Point) where
     mark (across x y) = pos 0
     mark (behind x y) = pos 0
 
+    -- 1 in the sector, else 0
     pub sector : Point → ℤ
     sector q = mark (spot q)
 
@@ -151,6 +152,7 @@ module _ (p : Point) where
             step (null e) = absurd (aside ux uy a b off x z e)
             step (under t) = told (pos 0) (pos 1) (pos 0) (negsuc 0) (passes p ux uy a b x z (weak t)) (falls (pos 1) (enters p vx vy b a w y (pos-is (sym (turn-swap p b a)) t))) refl
 
+    -- the other way round
     back : (a b : Point) (m n : ℤ) → Differs b a n m → Differs a b m n
     back a b m n e =
         cross-anti p ux uy a b ∙ ap opp e
