@@ -1,14 +1,12 @@
 -- The outline tells inside from outside, as map-makers use it: of a point that is not on it, the ring goes round it once where the point is
 -- in the area, and else not at all; so a ray to the right crosses it an odd number of times exactly from inside. For all marks that peels lead to.
 -- Assumes nothing.
-use mathlib.Core.Path.{_≡_, refl, sym, ap, ap₂, subst₂, _∙_}
-use mathlib.Core.Logic.{_↔_, _⊎_, inl, inr}
+use mathlib.Core.Path.{_≡_, refl, sym, ap, subst₂, _∙_}
+use mathlib.Core.Logic.{_⊎_, inl, inr}
 use mathlib.Core.Bool.{Bool, true, false}
 use mathlib.Core.List.{List}
-use Prim.Native.Nat.{ℕ, _+_, _*_, _/_, _<_}
-use native.Mathlib.Omega.{arith}
-use lib.Dec.{eqb}
-use lib.ListN.{length, getD}
+use Prim.Native.Nat.{ℕ, _+_, _<_}
+use lib.ListN.{getD}
 use lib.IntN.{ℤ, pos}
 use Rattle.laws.proofs.Test.{false-iff, eqb-iff, any-iff, same-answer}
 use Rattle.laws.proofs.Round.{early}
@@ -16,40 +14,21 @@ use Rattle.sheet.specs.Plane.{Point}
 use Rattle.sheet.specs.Office.{Office, points, sides, point, tail, head}
 use Rattle.sheet.specs.Acceptable.{Acceptable}
 use Rattle.sheet.proofs.Sign.{Pos, Non, opp, either, both}
-use Rattle.sheet.proofs.Total.{total, total-same}
 use Rattle.sheet.proofs.Side.{own-triangle}
-use Rattle.sheet.proofs.Tiling.{Even}
 use Rattle.sheet.proofs.Tiled.{tiling}
-use Rattle.sheet.proofs.Cancel.{Border, border-total}
-use Rattle.sheet.proofs.Mesh.{triples}
-use Rattle.sheet.proofs.Circuit.{along}
 use Rattle.sheet.proofs.Ray.{cross, cross-anti}
 use Rattle.sheet.proofs.AnyWay.{around-by}
 use Rattle.sheet.proofs.Wound.{left-once, not-left, left-held, held-left}
 use Rattle.rim.specs.Peel.{mark, kept, rim, ring, drawn}
 use Rattle.rim.specs.Reached.{Reached}
-use Rattle.rim.proofs.Marks.{rim-iff}
 use Rattle.rim.proofs.Reached.{Sound, sound}
 use Rattle.rim.proofs.Rings.{outlined, ring-length}
 use Rattle.peel.specs.Parcel.{on-way, in-area, on-outline, told, place, odd, corner, crossings, winding, on-ring, ring-place}
 use Rattle.peel.proofs.DrawEnds.{drawn-ends}
 use Rattle.peel.proofs.Simple.{reads, side}
+use Rattle.peel.proofs.RingSum.{kept-even, border-iff, ring-sum}
 use Rattle.peel.proofs.Parcels.{On, on-way-iff, in-area-iff, on-outline-iff, own-points}
 use Rattle.peel.proofs.Crossings.{winding-total, odd-is}
-
-module _ (o : Office) (k : List ℕ) where
-  -- kept triangles by their sides, and their border
-  kept-even : Even (kept o k)
-  kept-even t =
-      let e : (t * 3 + 1) / 3 ≡ t * 3 / 3 = omega arith in
-      let f : (t * 3 + 2) / 3 ≡ t * 3 / 3 = omega arith in
-      (ap (λ i. eqb (getD k i 0) 1) e, ap (λ i. eqb (getD k i 0) 1) f)
-
-  border-iff : (s : ℕ) → s < sides o → (rim o k s ≡ true) ↔ Border o (kept o k) s
-  border-iff s l = (
-    (λ e. let c = rim-iff o k s .0 e in record { of = eqb-iff .1 (c .0); alone = λ r b i w. c .1 r b (eqb-iff .0 i) w }),
-    (λ c. rim-iff o k s .1 (eqb-iff .0 (c .of), λ r b i w. c .alone r b (eqb-iff .1 i) w)),
-  )
 
 module _ {o : Office} {n : ℕ} {k : List ℕ} (a : Acceptable o) (r : Reached o n k) (z : Point) where
   h : Sound o n k
@@ -64,13 +43,7 @@ module _ {o : Office} {n : ℕ} {k : List ℕ} (a : Acceptable o) (r : Reached o
 
   -- is how often the ring goes round
   winding-is : winding o (ring o k) z ≡ W
-  winding-is =
-      winding-total o (ring o k) z
-      ∙ total-same _ _ (length (ring o k)) (λ i l. ap₂ F (reads a h i) (reads a h (i + 1)))
-      ∙ ap (total (λ i. F (outlined a h .round .at i) (outlined a h .round .at (i + 1)))) (ring-length a h)
-      ∙ sym (along (sides o) (rim o k) (tail o) (head o) (a .single) (outlined a h .round) F)
-      ∙ sym (border-total o (kept o k) F (λ i j. cross-anti z (pos 1) (pos 0) (point o i) (point o j)) (a .single) (rim o k) (border-iff o k))
-      ∙ triples o (tiling a) (kept o k) F (kept-even o k)
+  winding-is = winding-total o (ring o k) z ∙ ring-sum a h F (λ i j. cross-anti z (pos 1) (pos 0) (point o i) (point o j))
 
   -- on the outline or not, once or not at all
   pub once-or-never : (winding o (ring o k) z ≡ pos 1) ⊎ (winding o (ring o k) z ≡ pos 0)

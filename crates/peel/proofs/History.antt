@@ -1,0 +1,98 @@
+-- The history of a draw: its marks are those without the triangles of the history, a higher limit's history is the front of a lower one's, and
+-- what is left of it is the history from there. Of an acceptable office, each front of it leads to reached marks, and its areas are what is gone.
+-- Assumes nothing.
+use mathlib.Core.Path.{_≡_, refl, sym, ap, subst, _∙_}
+use mathlib.Core.Bool.{Bool, true, false, cond}
+use mathlib.Core.List.{List, [], _∷_}
+use mathlib.Core.Option.{Option, none, some}
+use Prim.Native.Nat.{ℕ, zero, suc, _+_, _-_, _/_, _<_, _≤_}
+use native.Mathlib.Omega.{arith}
+use lib.Dec.{ltb}
+use lib.ListN.{length, take, drop}
+use lib.Seq.{take-nil, drop-nil}
+use borrow.Author.Tests.{ltb-true, ltb-false}
+use Rattle.sheet.specs.Office.{Office, sides, triangles}
+use Rattle.sheet.specs.Acceptable.{Acceptable}
+use Rattle.rim.specs.Peel.{long, best, peel, turned, peels, whole, drawn, doubled}
+use Rattle.rim.specs.Reached.{Reached, begun, more}
+use Rattle.rim.proofs.Tallied.{doubled-after}
+use Rattle.rim.proofs.Reached.{sound, peelable}
+use Rattle.rim.proofs.TopSide.{Top, best-top}
+use Rattle.peel.specs.History.{noted, history-from, history, areas, without}
+
+module _ (o : Office) where
+  -- ---- the marks
+  turn-without : (others logs : List ℕ → List ℕ) (limit : ℕ) (k : List ℕ) (b : Option ℕ) → ((j : List ℕ) → others j ≡ without j (logs j)) → turned o others limit k b ≡ without k (noted o logs limit k b)
+  unfolding turned noted without
+  turn-without others logs limit k none ih = refl
+  turn-without others logs limit k (some s) ih = step (ltb limit (long o s))
+    where
+      step : (b : Bool) → cond b (others (peel k s)) k ≡ without k (cond b (s / 3 ∷ logs (peel k s)) [])
+      step true = ih (peel k s)
+      step false = refl
+
+  peels-without : (fuel limit : ℕ) (k : List ℕ) → peels o fuel limit k ≡ without k (history-from o fuel limit k)
+  unfolding peels history-from without
+  peels-without zero limit k = refl
+  peels-without (suc fuel) limit k = turn-without (peels o fuel limit) (history-from o fuel limit) limit k (best o k) (peels-without fuel limit)
+
+  pub drawn-without : (limit : ℕ) → drawn o limit ≡ without (whole o) (history o limit)
+  unfolding drawn history
+  drawn-without limit = peels-without (triangles o) limit (whole o)
+
+  -- ---- a higher limit
+  module _ {low high : ℕ} (below : low ≤ high) where
+    turn-front : (lows highs : List ℕ → List ℕ) (k : List ℕ) (b : Option ℕ) → ((j : List ℕ) → highs j ≡ take (length (highs j)) (lows j))
+        → noted o highs high k b ≡ take (length (noted o highs high k b)) (noted o lows low k b)
+    unfolding noted
+    turn-front lows highs k none ih = refl
+    turn-front lows highs k (some s) ih = step (ltb high (long o s)) (ltb low (long o s)) refl refl
+      where
+        step : (x y : Bool) → ltb high (long o s) ≡ x → ltb low (long o s) ≡ y
+            → cond x (s / 3 ∷ highs (peel k s)) [] ≡ take (length (cond x (s / 3 ∷ highs (peel k s)) [])) (cond y (s / 3 ∷ lows (peel k s)) [])
+        step true true e f = ap {B = List ℕ} (λ l. s / 3 ∷ l) (ih (peel k s))
+        step true false e f = absurd (let l = ltb-true high (long o s) e in let m = ltb-false low (long o s) f in omega arith)
+        step false y e f = refl
+
+    front-from : (fuel : ℕ) (k : List ℕ) → history-from o fuel high k ≡ take (length (history-from o fuel high k)) (history-from o fuel low k)
+    unfolding history-from
+    front-from zero k = refl
+    front-from (suc fuel) k = turn-front (history-from o fuel low) (history-from o fuel high) k (best o k) (front-from fuel)
+
+    pub history-front : history o high ≡ take (length (history o high)) (history o low)
+    unfolding history
+    history-front = front-from (triangles o) (whole o)
+
+-- ---- of an acceptable office
+-- from marks k, n peels on the way, the triangles ts lead to reached marks, and their areas are what is gone
+pub record Leads (o : Office) (n : ℕ) (k ts : List ℕ) : Type 0 where
+  pub reached : Reached o (n + length ts) (without k ts)
+  pub gone : doubled o k ≡ doubled o (without k ts) + areas o ts
+
+module _ {o : Office} (a : Acceptable o) (limit : ℕ) where
+  stay : {n : ℕ} {k : List ℕ} → Reached o n k → Leads o n k []
+  unfolding without areas
+  stay {n} {k} r = record { reached = subst (λ m. Reached o m k) (omega arith) r; gone = omega arith }
+
+  turn-leads : {n : ℕ} {k : List ℕ} (logs : List ℕ → List ℕ) (b : Option ℕ) → Reached o n k → Top a k (sides o) b
+      → ((s : ℕ) → Reached o (suc n) (peel k s) → (m : ℕ) → Leads o (suc n) (peel k s) (take m (logs (peel k s)))) → (m : ℕ) → Leads o n k (take m (noted o logs limit k b))
+  unfolding noted without areas
+  turn-leads logs b r t ih zero = stay r
+  turn-leads logs none r t ih (suc m) = stay r
+  turn-leads {n} {k} logs (some s) r (l, e, t) ih (suc m) = step (ltb limit (long o s)) (ih s (more s r l e) m)
+    where
+      step : (b : Bool) → Leads o (suc n) (peel k s) (take m (logs (peel k s))) → Leads o n k (take (suc m) (cond b (s / 3 ∷ logs (peel k s)) []))
+      step true h = record {
+        reached = subst (λ i. Reached o i (without (peel k s) (take m (logs (peel k s))))) (omega arith) (h .reached);
+        gone = let x = h .gone in let y = doubled-after a (peelable o a (sound o a r) s l e) in omega arith;
+      }
+      step false h = stay r
+
+  from-leads : (fuel : ℕ) {n : ℕ} {k : List ℕ} → Reached o n k → (m : ℕ) → Leads o n k (take m (history-from o fuel limit k))
+  unfolding history-from
+  from-leads zero r m = rw (take-nil {A = ℕ} m) (stay r)
+  from-leads (suc fuel) {k = k} r m = turn-leads (history-from o fuel limit) (best o k) r (best-top a k) (λ s q. from-leads fuel q) m
+
+  pub history-leads : (m : ℕ) → Leads o 0 (whole o) (take m (history o limit))
+  unfolding history
+  history-leads m = from-leads (triangles o) begun m
