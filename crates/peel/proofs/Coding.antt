@@ -1,0 +1,105 @@
+-- The coding of one number below 2 ^ 14 reads back, both ways: what is coded is read, and what is read was coded; and so what is wrong with bytes
+-- where no number is read. Assumes nothing.
+use mathlib.Core.Path.{_≡_, refl, sym, ap, ap₂, _∙_}
+use mathlib.Core.Logic.{_↔_, _⊎_, inl, inr}
+use mathlib.Core.Bool.{Bool, true, false, cond, _||_}
+use mathlib.Core.List.{List, [], _∷_, _++_}
+use Prim.Native.Nat.{ℕ, zero, suc, _+_, _-_, _*_, _/_, _%_, _<_, _≤_}
+use native.Mathlib.Omega.{arith}
+use lib.Dec.{eqb, ltb, leb}
+use lib.ListN.{length, getD, length-append}
+use lib.Seq.{getD-append-add}
+use borrow.Author.Tests.{ltb-true, ltb-false, lt-ltb, le-ltb}
+use Rattle.laws.proofs.Test.{false-iff, or-iff, eqb-iff, leb-iff}
+use Rattle.peel.specs.Log.{coded, Number, cut, ill-formed, formed, second-group, number-in, Replay, faults, numbered}
+use Rattle.peel.specs.LogRefusals.{Octets, Cut, nothing-left, one-group, Long, two-groups, BadNumber, cut-short, not-shortest, too-high}
+
+-- a second group that is 0, or has its top bit set
+longer : (c : ℕ) → ((eqb c 0 || leb 128 c) ≡ true) ↔ ((c ≡ 0) ⊎ (128 ≤ c))
+longer c = ((λ e. to (or-iff .0 e)), from)
+  where
+    to : (eqb c 0 ≡ true) ⊎ (leb 128 c ≡ true) → (c ≡ 0) ⊎ (128 ≤ c)
+    to (inl z) = inl (eqb-iff .0 z)
+    to (inr z) = inr (leb-iff .0 z)
+
+    from : (c ≡ 0) ⊎ (128 ≤ c) → (eqb c 0 || leb 128 c) ≡ true
+    from (inl z) = or-iff {a = eqb c 0} .1 (inl (eqb-iff .1 z))
+    from (inr z) = or-iff {a = eqb c 0} .1 (inr (leb-iff .1 z))
+
+shortest : (c : ℕ) → 0 < c → c < 128 → (eqb c 0 || leb 128 c) ≡ false
+shortest c x y = false-iff .1 (λ e. neither (longer c .0 e))
+  where
+    neither : (c ≡ 0) ⊎ (128 ≤ c) → ⊥
+    neither (inl z) = omega arith
+    neither (inr z) = omega arith
+
+two-read : (b c : ℕ) (rest : List ℕ) → 128 ≤ b → 0 < c → c < 128 → number-in (b ∷ c ∷ rest) ≡ formed (b - 128 + 128 * c) rest
+unfolding number-in second-group
+two-read b c rest l x y = rw (le-ltb b 128 l, shortest c x y)
+
+-- what is coded is read
+pub coded-read : (n : ℕ) (rest : List ℕ) → n < 16384 → number-in (coded n ++ rest) ≡ formed n rest
+unfolding coded number-in
+coded-read n rest l = step (ltb n 128) refl
+  where
+    step : (b : Bool) → ltb n 128 ≡ b → number-in (cond b (n ∷ []) ((n % 128 + 128) ∷ n / 128 ∷ []) ++ rest) ≡ formed n rest
+    step true e = rw e
+    step false e =
+        let m : 128 ≤ n = ltb-false n 128 e in
+        let z : n % 128 + 128 - 128 + 128 * (n / 128) ≡ n = omega arith in
+        two-read (n % 128 + 128) (n / 128) rest (omega arith) (omega arith) (omega arith) ∙ ap (λ i. formed i rest) z
+
+-- what stands in front, in plain logic
+pub data Stands (bytes : List ℕ) : Number → Type 0 where
+  is-cut : Cut bytes → Stands bytes cut
+  is-long : Long bytes → Stands bytes ill-formed
+  is-coded : (n : ℕ) (rest : List ℕ) → n < 16384 → bytes ≡ coded n ++ rest → Stands bytes (formed n rest)
+
+-- ... is what is read
+pub stands-read : {bytes : List ℕ} {x : Number} → Stands bytes x → number-in bytes ≡ x
+unfolding number-in second-group
+stands-read (is-cut nothing-left) = refl
+stands-read (is-cut (one-group b l)) = rw (le-ltb b 128 l)
+stands-read (is-long (two-groups b c rest l e)) = rw (le-ltb b 128 l, longer c .1 e)
+stands-read (is-coded n rest l e) = ap number-in e ∙ coded-read n rest l
+
+-- ... and the other way round
+pub read-stands : (bytes : List ℕ) → Octets bytes → Stands bytes (number-in bytes)
+unfolding number-in second-group coded
+read-stands [] h = is-cut nothing-left
+read-stands (b ∷ bytes) h = first (ltb b 128) refl bytes (h 0 (omega arith))
+  where
+    first : (x : Bool) → ltb b 128 ≡ x → (bytes : List ℕ) → b < 256 → Stands (b ∷ bytes) (cond x (formed b bytes) (second-group b bytes))
+    first true e bytes m = is-coded b bytes (let l = ltb-true b 128 e in omega arith) (rw e)
+    first false e [] m = is-cut (one-group b (ltb-false b 128 e))
+    first false e (c ∷ rest) m = second (eqb c 0 || leb 128 c) refl
+      where
+        l : 128 ≤ b
+        l = ltb-false b 128 e
+
+        second : (x : Bool) → (eqb c 0 || leb 128 c) ≡ x → Stands (b ∷ c ∷ rest) (cond x ill-formed (formed (b - 128 + 128 * c) rest))
+        second true f = is-long (two-groups b c rest l (longer c .0 f))
+        second false f =
+            let u : c ≡ 0 → ⊥ = λ z. false-iff .0 f (longer c .1 (inl z)) in
+            let w : 128 ≤ c → ⊥ = λ z. false-iff .0 f (longer c .1 (inr z)) in
+            let k : 128 ≤ b = l in
+            let n : ℕ = b - 128 + 128 * c in
+            let p : n % 128 + 128 ≡ b = omega arith in
+            let q : n / 128 ≡ c = omega arith in
+            is-coded n rest (omega arith) (rw (le-ltb n 128 (omega arith)) (ap₂ (λ (i j : ℕ). i ∷ j ∷ rest) (sym p) (sym q)))
+
+-- a number's fault is the refusal at its place
+pub bad-refused : (next : ℕ → List ℕ → Replay) (at : ℕ) (bytes : List ℕ) (number : ℕ) → BadNumber bytes number → numbered next at (number-in bytes) ≡ faults number at
+unfolding numbered
+bad-refused next at bytes number (cut-short c) = ap (numbered next at) (stands-read (is-cut c))
+bad-refused next at bytes number (not-shortest c) = ap (numbered next at) (stands-read (is-long c))
+bad-refused next at bytes number (too-high n rest h l e) = ap (numbered next at) (stands-read (is-coded n rest l e)) ∙ rw (lt-ltb 2042 n h)
+
+-- a number in front goes on with the next
+pub low-next : (next : ℕ → List ℕ → Replay) (at n : ℕ) (rest : List ℕ) → n ≤ 2042 → numbered next at (number-in (coded n ++ rest)) ≡ next n rest
+unfolding numbered
+low-next next at n rest l = ap (numbered next at) (coded-read n rest (omega arith)) ∙ rw (le-ltb 2042 n l)
+
+-- the bytes after a number
+pub octets-after : (front rest : List ℕ) → Octets (front ++ rest) → Octets rest
+octets-after front rest h i l = rw (getD-append-add front rest i 0) at (h (length front + i) (rw (length-append front rest) (omega arith)))

@@ -1,0 +1,100 @@
+-- What a replay answers is what plain logic tells, for every log, and the other way round. Assumes nothing.
+use mathlib.Core.Path.{_≡_, refl, sym, ap, ap₂, subst, subst₂, _∙_}
+use mathlib.Core.Logic.{_↔_}
+use mathlib.Core.Bool.{Bool, true, false, cond}
+use mathlib.Core.List.{List, [], _∷_, _++_, append-assoc, append-nil}
+use Prim.Native.Nat.{ℕ, zero, suc, _+_, _-_, _<_, _≤_}
+use native.Mathlib.Decide.{decLt}
+use native.Mathlib.Omega.{arith}
+use lib.Dec.{eqb, ltb}
+use lib.ListN.{length, getD, take, drop, length-append, drop-of-length-le}
+use lib.Seq.{take-suc, drop-cons}
+use borrow.Author.Tests.{ltb-true, ltb-false}
+use Rattle.laws.proofs.Test.{false-iff, eqb-iff}
+use Rattle.peel.specs.Log.{coded, codes, Number, formed, number-in, Replay, accepts, faults, numbered, judged, ended, follows, replay-of}
+use Rattle.peel.specs.LogRefusals.{Octets, BadNumber, cut-short, not-shortest, too-high, Begins, place, Peel, Told, all-peels, bad-count, bad-number, not-next, left-over}
+use Rattle.peel.proofs.Coding.{Stands, is-cut, is-long, is-coded, read-stands, bad-refused, low-next, octets-after}
+
+codes-append : (ns ms : List ℕ) → codes (ns ++ ms) ≡ codes ns ++ codes ms
+unfolding codes
+codes-append [] ms = refl
+codes-append (n ∷ ns) ms = ap (λ l. coded n ++ l) (codes-append ns ms) ∙ sym (append-assoc (coded n) (codes ns) (codes ms))
+
+module _ (ts : List ℕ) where
+  -- one peel more
+  codes-more : (m j : ℕ) → j < length ts → codes (m ∷ take (suc j) ts) ≡ codes (m ∷ take j ts) ++ coded (getD ts j 0)
+  unfolding codes
+  codes-more m j l =
+      ap (λ l. codes (m ∷ l)) (take-suc ts j 0 l)
+      ∙ codes-append (m ∷ take j ts) (getD ts j 0 ∷ [])
+      ∙ ap (λ l. codes (m ∷ take j ts) ++ l) (append-nil (coded (getD ts j 0)))
+
+  place-more : (bytes : List ℕ) (m j : ℕ) → j < length ts → place ts bytes m (suc j) ≡ place ts bytes m j + length (coded (getD ts j 0))
+  place-more bytes m j l = ap length (codes-more m j l) ∙ length-append (codes (m ∷ take j ts)) (coded (getD ts j 0))
+
+  -- ---- from the answer to what it tells
+  module _ (bytes : List ℕ) where
+    begins-more : {m j : ℕ} {rest : List ℕ} → Begins ts bytes m j (coded (getD ts j 0) ++ rest) → j < m → j < length ts → Begins ts bytes m (suc j) rest
+    begins-more {m} {j} {rest} b l k = record {
+      low = b .low;
+      asked = l;
+      there = k;
+      reads = b .reads ∙ sym (append-assoc (codes (m ∷ take j ts)) (coded (getD ts j 0)) rest) ∙ ap (λ l. l ++ rest) (sym (codes-more m j k));
+    }
+
+    -- one number, where the others after it are told
+    one-told : (others : List ℕ → ℕ → List ℕ → Replay) (m j : ℕ) (rest : List ℕ) → j < m → Begins ts bytes m j rest → Octets rest
+        → ((after : List ℕ) → Begins ts bytes m (suc j) after → Octets after → Told ts bytes (others (drop (suc j) ts) (place ts bytes m (suc j)) after))
+        → Told ts bytes (numbered (judged others (drop j ts) (place ts bytes m j)) (place ts bytes m j) (number-in rest))
+    unfolding numbered judged
+    one-told others m j rest l b h ih = step (number-in rest) (read-stands rest h)
+      where
+        next : (n : ℕ) (after : List ℕ) → n ≤ 2042 → rest ≡ coded n ++ after → Dec (j < length ts) → Told ts bytes (judged others (drop j ts) (place ts bytes m j) n after)
+        next n after low e (no f) =
+            subst (λ l. Told ts bytes (judged others l (place ts bytes m j) n after)) (sym (drop-of-length-le ts {i = j} (omega arith)))
+            (not-next m j n after l (subst (Begins ts bytes m j) e b) low (λ p. f (p .0)))
+        next n after low e (yes k) =
+            subst (λ l. Told ts bytes (judged others l (place ts bytes m j) n after)) (sym (drop-cons ts j 0 k)) (same (eqb n (getD ts j 0)) refl)
+          where
+            same : (x : Bool) → eqb n (getD ts j 0) ≡ x → Told ts bytes (cond x (others (drop (suc j) ts) (place ts bytes m j + length (coded n)) after) (faults 43 (place ts bytes m j)))
+            same true z =
+                let y : n ≡ getD ts j 0 = eqb-iff .0 z in
+                let w : rest ≡ coded (getD ts j 0) ++ after = e ∙ ap (λ i. coded i ++ after) y in
+                subst (λ i. Told ts bytes (others (drop (suc j) ts) i after)) (place-more bytes m j k ∙ ap (λ i. place ts bytes m j + length (coded i)) (sym y))
+                (ih after (begins-more (subst (Begins ts bytes m j) w b) l k) (octets-after (coded n) after (subst Octets e h)))
+            same false z = not-next m j n after l (subst (Begins ts bytes m j) e b) low (λ p. false-iff .0 z (eqb-iff .1 (sym (p .1))))
+
+        step : (x : Number) → Stands rest x → Told ts bytes (numbered (judged others (drop j ts) (place ts bytes m j)) (place ts bytes m j) x)
+        step x (is-cut c) = bad-number m j 41 rest l b (cut-short c)
+        step x (is-long c) = bad-number m j 42 rest l b (not-shortest c)
+        step x (is-coded n after k e) = high (ltb 2042 n) refl
+          where
+            high : (x : Bool) → ltb 2042 n ≡ x → Told ts bytes (cond x (faults 42 (place ts bytes m j)) (judged others (drop j ts) (place ts bytes m j) n after))
+            high true f = bad-number m j 42 rest l b (too-high n after (ltb-true 2042 n f) k e)
+            high false f = next n after (ltb-false 2042 n f) e (decLt j (length ts))
+
+    told-from : (i m j : ℕ) (rest : List ℕ) → j + i ≡ m → Begins ts bytes m j rest → Octets rest → Told ts bytes (follows m i (drop j ts) (place ts bytes m j) rest)
+    unfolding follows ended
+    told-from zero m j rest e b h = end rest (let z : j ≡ m = omega arith in z) b
+      where
+        end : (rest : List ℕ) → j ≡ m → Begins ts bytes m j rest → Told ts bytes (ended m (place ts bytes m j) rest)
+        end [] z b = all-peels m (subst (λ i. Begins ts bytes m i []) z b)
+        end (c ∷ rest) z b = subst (λ i. Told ts bytes (faults 44 (place ts bytes m i))) (sym z) (left-over m c rest (subst (λ i. Begins ts bytes m i (c ∷ rest)) z b))
+    told-from (suc i) m j rest e b h = one-told (follows m i) m j rest (omega arith) b h (λ after c k. told-from i m (suc j) after (omega arith) c k)
+
+    pub replay-told : Octets bytes → Told ts bytes (replay-of ts bytes)
+    unfolding replay-of numbered codes
+    replay-told h = step (number-in bytes) (read-stands bytes h)
+      where
+        step : (x : Number) → Stands bytes x → Told ts bytes (numbered (λ m rest. follows m m ts (length (coded m)) rest) 0 x)
+        step x (is-cut c) = bad-count 41 (cut-short c)
+        step x (is-long c) = bad-count 42 (not-shortest c)
+        step x (is-coded m rest k e) = high (ltb 2042 m) refl
+          where
+            high : (x : Bool) → ltb 2042 m ≡ x → Told ts bytes (cond x (faults 42 0) (follows m m ts (length (coded m)) rest))
+            high true f = bad-count 42 (too-high m rest (ltb-true 2042 m f) k e)
+            high false f =
+                let z : coded m ++ [] ≡ coded m = append-nil (coded m) in
+                subst (λ i. Told ts bytes (follows m m ts i rest)) (ap length z)
+                (told-from m m 0 rest (omega arith) (record { low = ltb-false 2042 m f; asked = omega arith; there = omega arith; reads = e ∙ ap (λ l. l ++ rest) (sym z) })
+                (octets-after (coded m) rest (subst Octets e h)))
