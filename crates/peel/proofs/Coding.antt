@@ -11,7 +11,7 @@ use lib.ListN.{length, getD, length-append}
 use lib.Seq.{getD-append-add}
 use borrow.Author.Tests.{ltb-true, ltb-false, lt-ltb, le-ltb}
 use Rattle.laws.proofs.Test.{false-iff, or-iff, eqb-iff, leb-iff}
-use Rattle.peel.specs.Log.{coded, Number, cut, ill-formed, formed, second-group, number-in, Replay, faults, numbered}
+use Rattle.peel.specs.Log.{coded, codes, Number, cut, ill-formed, formed, second-group, number-in, Replay, faults, numbered}
 use Rattle.peel.specs.LogRefusals.{Octets, Cut, nothing-left, one-group, Long, two-groups, BadNumber, cut-short, not-shortest, too-high}
 
 -- a second group that is 0, or has its top bit set
@@ -103,3 +103,25 @@ low-next next at n rest l = ap (numbered next at) (coded-read n rest (omega arit
 -- the bytes after a number
 pub octets-after : (front rest : List ℕ) → Octets (front ++ rest) → Octets rest
 octets-after front rest h i l = rw (getD-append-add front rest i 0) at (h (length front + i) (rw (length-append front rest) (omega arith)))
+
+-- what is coded is bytes
+octets-coded : (n : ℕ) → n < 16384 → Octets (coded n)
+unfolding coded
+octets-coded n l = step (ltb n 128) refl
+  where
+    step : (b : Bool) → ltb n 128 ≡ b → Octets (cond b (n ∷ []) ((n % 128 + 128) ∷ n / 128 ∷ []))
+    step true e zero h = let m = ltb-true n 128 e in omega arith
+    step true e (suc i) h = absurd (omega arith)
+    step false e zero h = omega arith
+    step false e (suc zero) h = omega arith
+    step false e (suc (suc i)) h = absurd (omega arith)
+
+octets-append : (front rest : List ℕ) → Octets front → Octets rest → Octets (front ++ rest)
+octets-append [] rest f r i l = r i l
+octets-append (b ∷ front) rest f r zero l = f 0 (omega arith)
+octets-append (b ∷ front) rest f r (suc i) l = octets-append front rest (λ j k. f (suc j) (omega arith)) r i (omega arith)
+
+pub octets-codes : (ns : List ℕ) → ((j : ℕ) → j < length ns → getD ns j 0 < 16384) → Octets (codes ns)
+unfolding codes
+octets-codes [] h = λ i l. absurd (omega arith)
+octets-codes (n ∷ ns) h = octets-append (coded n) (codes ns) (octets-coded n (h 0 (omega arith))) (octets-codes ns (λ j l. h (suc j) (omega arith)))

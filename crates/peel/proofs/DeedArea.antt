@@ -14,8 +14,9 @@ use Rattle.rim.specs.Reached.{Reached, begun}
 use Rattle.rim.proofs.Reached.{sound}
 use Rattle.peel.specs.Shoelace.{ring-lace}
 use Rattle.peel.specs.History.{history, areas, without}
+use Rattle.peel.proofs.DrawnOutline.{stripped-reached}
 use Rattle.peel.proofs.Shoelace.{doubled-laced, ring-positive}
-use Rattle.peel.proofs.History.{Leads, history-leads, drawn-without}
+use Rattle.peel.proofs.History.{history-leads, drawn-without}
 
 -- marks k, once the triangles ts are peeled
 pub record Deed (o : Office) (k ts : List ℕ) : Type 0 where
@@ -37,11 +38,12 @@ module _ {o : Office} (a : Acceptable o) where
     pub after-each : (m : ℕ) → Deed o (without (whole o) (take m (history o limit))) (take m (history o limit))
     after-each m =
         let h = history-leads a limit m in
+        let r = stripped-reached a limit (h .strips) in
         record {
-          agree = reached-laced (h .reached);
-          positive = ring-positive a (sound o a (h .reached));
+          agree = reached-laced r;
+          positive = ring-positive a (sound o a r);
           hull = h .gone;
-          hull-ring = sym (reached-laced begun) ∙ ap pos (h .gone) ∙ ap (λ z. z +ℤ pos (areas o (take m (history o limit)))) (reached-laced (h .reached));
+          hull-ring = sym (reached-laced begun) ∙ ap pos (h .gone) ∙ ap (λ z. z +ℤ pos (areas o (take m (history o limit)))) (reached-laced r);
         }
 
     -- after a draw

@@ -65,7 +65,7 @@ module _ {o : Office} (a : Acceptable o) (limit : ℕ) where
   peels-best (suc fuel) {n} {k} r = turn-best (peels o fuel limit) (best o k) refl r (λ s h. peels-best fuel h)
 
   -- the best side is removable
-  stripped-reached : {n : ℕ} {k : List ℕ} → Stripped o limit n k → Reached o n k
+  pub stripped-reached : {n : ℕ} {k : List ℕ} → Stripped o limit n k → Reached o n k
   stripped-reached none-yet = begun
   stripped-reached (one-more {n} {k} s r e l) = let (b, u, _) = subst (Top a k (sides o)) e (best-top a k) in more s (stripped-reached r) b u
 

@@ -1,24 +1,26 @@
--- The history of a draw: its marks are those without the triangles of the history, a higher limit's history is the front of a lower one's, and
--- what is left of it is the history from there. Of an acceptable office, each front of it leads to reached marks, and its areas are what is gone.
+-- The history of a draw: its marks are those without the triangles of the history, a higher limit's history is the front of a lower one's, and,
+-- of an acceptable office, its first peels are peels of best sides whose areas are what is gone.
 -- Assumes nothing.
 use mathlib.Core.Path.{_≡_, refl, sym, ap, subst, _∙_}
 use mathlib.Core.Bool.{Bool, true, false, cond}
 use mathlib.Core.List.{List, [], _∷_}
 use mathlib.Core.Option.{Option, none, some}
-use Prim.Native.Nat.{ℕ, zero, suc, _+_, _-_, _/_, _<_, _≤_}
+use Prim.Native.Nat.{ℕ, zero, suc, _+_, _/_, _<_, _≤_}
 use native.Mathlib.Omega.{arith}
 use lib.Dec.{ltb}
-use lib.ListN.{length, take, drop}
-use lib.Seq.{take-nil, drop-nil}
+use lib.ListN.{length, getD, take}
+use lib.Seq.{take-nil, take-length}
 use borrow.Author.Tests.{ltb-true, ltb-false}
 use Rattle.sheet.specs.Office.{Office, sides, triangles}
 use Rattle.sheet.specs.Acceptable.{Acceptable}
 use Rattle.rim.specs.Peel.{long, best, peel, turned, peels, whole, drawn, doubled}
-use Rattle.rim.specs.Reached.{Reached, begun, more}
+use Rattle.rim.specs.Reached.{Stripped, none-yet, one-more}
 use Rattle.rim.proofs.Tallied.{doubled-after}
 use Rattle.rim.proofs.Reached.{sound, peelable}
+use Rattle.rim.proofs.Rings.{some-kept}
 use Rattle.rim.proofs.TopSide.{Top, best-top}
 use Rattle.peel.specs.History.{noted, history-from, history, areas, without}
+use Rattle.peel.proofs.DrawnOutline.{stripped-reached}
 
 module _ (o : Office) where
   -- ---- the marks
@@ -64,35 +66,55 @@ module _ (o : Office) where
     history-front = front-from (triangles o) (whole o)
 
 -- ---- of an acceptable office
--- from marks k, n peels on the way, the triangles ts lead to reached marks, and their areas are what is gone
-pub record Leads (o : Office) (n : ℕ) (k ts : List ℕ) : Type 0 where
-  pub reached : Reached o (n + length ts) (without k ts)
+-- from marks k, n peels on the way, the triangles ts are the next peels of best sides, and their areas are what is gone
+pub record Leads (o : Office) (limit n : ℕ) (k ts : List ℕ) : Type 0 where
+  pub strips : Stripped o limit (n + length ts) (without k ts)
   pub gone : doubled o k ≡ doubled o (without k ts) + areas o ts
+  pub there : (j : ℕ) → j < length ts → getD ts j 0 < triangles o
 
 module _ {o : Office} (a : Acceptable o) (limit : ℕ) where
-  stay : {n : ℕ} {k : List ℕ} → Reached o n k → Leads o n k []
+  stay : {n : ℕ} {k : List ℕ} → Stripped o limit n k → Leads o limit n k []
   unfolding without areas
-  stay {n} {k} r = record { reached = subst (λ m. Reached o m k) (omega arith) r; gone = omega arith }
+  stay {n} {k} r = record { strips = subst (λ m. Stripped o limit m k) (omega arith) r; gone = omega arith; there = λ j l. absurd (omega arith) }
 
-  turn-leads : {n : ℕ} {k : List ℕ} (logs : List ℕ → List ℕ) (b : Option ℕ) → Reached o n k → Top a k (sides o) b
-      → ((s : ℕ) → Reached o (suc n) (peel k s) → (m : ℕ) → Leads o (suc n) (peel k s) (take m (logs (peel k s)))) → (m : ℕ) → Leads o n k (take m (noted o logs limit k b))
+  turn-leads : {n : ℕ} {k : List ℕ} (logs : List ℕ → List ℕ) (b : Option ℕ) → best o k ≡ b → Stripped o limit n k → Top a k (sides o) b
+      → ((s : ℕ) → Stripped o limit (suc n) (peel k s) → (m : ℕ) → Leads o limit (suc n) (peel k s) (take m (logs (peel k s)))) → (m : ℕ) → Leads o limit n k (take m (noted o logs limit k b))
   unfolding noted without areas
-  turn-leads logs b r t ih zero = stay r
-  turn-leads logs none r t ih (suc m) = stay r
-  turn-leads {n} {k} logs (some s) r (l, e, t) ih (suc m) = step (ltb limit (long o s)) (ih s (more s r l e) m)
+  turn-leads logs b e r t ih zero = stay r
+  turn-leads logs none e r t ih (suc m) = stay r
+  turn-leads {n} {k} logs (some s) f r (l, e, t) ih (suc m) = step (ltb limit (long o s)) refl
     where
-      step : (b : Bool) → Leads o (suc n) (peel k s) (take m (logs (peel k s))) → Leads o n k (take (suc m) (cond b (s / 3 ∷ logs (peel k s)) []))
-      step true h = record {
-        reached = subst (λ i. Reached o i (without (peel k s) (take m (logs (peel k s))))) (omega arith) (h .reached);
-        gone = let x = h .gone in let y = doubled-after a (peelable o a (sound o a r) s l e) in omega arith;
-      }
-      step false h = stay r
+      step : (b : Bool) → ltb limit (long o s) ≡ b → Leads o limit n k (take (suc m) (cond b (s / 3 ∷ logs (peel k s)) []))
+      step true x =
+          let h = ih s (one-more s r f (ltb-true limit (long o s) x)) m in
+          record {
+            strips = subst (λ i. Stripped o limit i (without (peel k s) (take m (logs (peel k s))))) (omega arith) (h .strips);
+            gone = let x = h .gone in let y = doubled-after a (peelable o a (sound o a (stripped-reached a limit r)) s l e) in omega arith;
+            there = in-row (let c = a .corners-bound .1 in omega arith) (h .there);
+          }
+        where
+          in-row : s / 3 < triangles o → ((j : ℕ) → j < length (take m (logs (peel k s))) → getD (take m (logs (peel k s))) j 0 < triangles o)
+              → (j : ℕ) → j < suc (length (take m (logs (peel k s)))) → getD (s / 3 ∷ take m (logs (peel k s))) j 0 < triangles o
+          in-row w g zero b = w
+          in-row w g (suc j) b = g j (omega arith)
+      step false x = stay r
 
-  from-leads : (fuel : ℕ) {n : ℕ} {k : List ℕ} → Reached o n k → (m : ℕ) → Leads o n k (take m (history-from o fuel limit k))
+  from-leads : (fuel : ℕ) {n : ℕ} {k : List ℕ} → Stripped o limit n k → (m : ℕ) → Leads o limit n k (take m (history-from o fuel limit k))
   unfolding history-from
   from-leads zero r m = rw (take-nil {A = ℕ} m) (stay r)
-  from-leads (suc fuel) {k = k} r m = turn-leads (history-from o fuel limit) (best o k) r (best-top a k) (λ s q. from-leads fuel q) m
+  from-leads (suc fuel) {k = k} r m = turn-leads (history-from o fuel limit) (best o k) refl r (best-top a k) (λ s q. from-leads fuel q) m
 
-  pub history-leads : (m : ℕ) → Leads o 0 (whole o) (take m (history o limit))
+  -- the first m peels of a draw
+  pub history-leads : (m : ℕ) → Leads o limit 0 (whole o) (take m (history o limit))
   unfolding history
-  history-leads m = from-leads (triangles o) begun m
+  history-leads m = from-leads (triangles o) none-yet m
+
+  all-leads : Leads o limit 0 (whole o) (history o limit)
+  all-leads = subst (Leads o limit 0 (whole o)) (take-length (history o limit)) (history-leads (length (history o limit)))
+
+  -- all fit a log's numbers
+  pub history-low : (j : ℕ) → j < length (history o limit) → getD (history o limit) j 0 ≤ 2042
+  history-low j l = let h = all-leads .there j l in let c = a .corners-bound in omega arith
+
+  pub history-short : length (history o limit) ≤ 2042
+  history-short = let h = some-kept a (sound o a (stripped-reached a limit (all-leads .strips))) in let c = a .corners-bound in omega arith

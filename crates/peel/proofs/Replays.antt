@@ -98,3 +98,48 @@ module _ (ts : List ℕ) where
                 subst (λ i. Told ts bytes (follows m m ts i rest)) (ap length z)
                 (told-from m m 0 rest (omega arith) (record { low = ltb-false 2042 m f; asked = omega arith; there = omega arith; reads = e ∙ ap (λ l. l ++ rest) (sym z) })
                 (octets-after (coded m) rest (subst Octets e h)))
+
+  -- ---- and back
+  module _ (low : (j : ℕ) → j < length ts → getD ts j 0 ≤ 2042) where
+    one-read : (m i t : ℕ) (us : List ℕ) (at : ℕ) (rest : List ℕ) → t ≤ 2042 → follows m (suc i) (t ∷ us) at (coded t ++ rest) ≡ follows m i us (at + length (coded t)) rest
+    unfolding follows judged
+    one-read m i t us at rest l = let e : eqb t t ≡ true = eqb-iff {a = t} .1 refl in low-next (judged (follows m i) (t ∷ us) at) at t rest l ∙ rw e
+
+    -- past a count and the first j peels
+    reads-on : (m j : ℕ) (rest : List ℕ) → m ≤ 2042 → j ≤ m → j ≤ length ts
+        → replay-of ts (codes (m ∷ take j ts) ++ rest) ≡ follows m (m - j) (drop j ts) (length (codes (m ∷ take j ts))) rest
+    unfolding replay-of codes
+    reads-on m zero rest l b c =
+        ap (λ l. replay-of ts (l ++ rest)) (append-nil (coded m))
+        ∙ low-next (λ m rest. follows m m ts (length (coded m)) rest) 0 m rest l
+        ∙ ap₂ (λ i at. follows m i ts at rest) (omega arith) (ap length (sym (append-nil (coded m))))
+    reads-on m (suc j) rest l b c =
+        let t : ℕ = getD ts j 0 in
+        let at : ℕ = length (codes (m ∷ take j ts)) in
+        ap (λ l. replay-of ts (l ++ rest)) (codes-more m j c)
+        ∙ ap (replay-of ts) (append-assoc (codes (m ∷ take j ts)) (coded t) rest)
+        ∙ reads-on m j (coded t ++ rest) l (omega arith) (omega arith)
+        ∙ ap₂ (λ i us. follows m i us at (coded t ++ rest)) (let z : m - j ≡ suc (m - suc j) = omega arith in z) (drop-cons ts j 0 c)
+        ∙ one-read m (m - suc j) t (drop (suc j) ts) at rest (low j c)
+        ∙ ap (λ at. follows m (m - suc j) (drop (suc j) ts) at rest) (sym (place-more [] m j c))
+
+    here : {bytes : List ℕ} {m j : ℕ} {rest : List ℕ} → Begins ts bytes m j rest → replay-of ts bytes ≡ follows m (m - j) (drop j ts) (place ts bytes m j) rest
+    here {m = m} {j} {rest} b = ap (replay-of ts) (b .reads) ∙ reads-on m j rest (b .low) (b .asked) (b .there)
+
+    not-judged : (others : List ℕ → ℕ → List ℕ → Replay) (bytes : List ℕ) (j t at : ℕ) (rest : List ℕ) → (Peel ts bytes j t → ⊥) → judged others (drop j ts) at t rest ≡ faults 43 at
+    unfolding judged
+    not-judged others bytes j t at rest f = elim (decLt j (length ts)) [
+      | no g ↦ rw (drop-of-length-le ts {i = j} (omega arith)) refl
+      | yes l ↦ rw (drop-cons ts j 0 l, false-iff .1 (λ e. f (l, sym (eqb-iff {a = t} .0 e)))) refl
+    ]
+
+    pub told-replay : (bytes : List ℕ) {x : Replay} → Told ts bytes x → replay-of ts bytes ≡ x
+    unfolding follows ended replay-of
+    told-replay bytes (all-peels n b) = here b ∙ ap (λ i. follows n i (drop n ts) (place ts bytes n n) []) (let z : n - n ≡ 0 = omega arith in z)
+    told-replay bytes (bad-count number b) = bad-refused (λ m rest. follows m m ts (length (coded m)) rest) 0 bytes number b
+    told-replay bytes (bad-number m j number rest l b bad) = here b ∙ ap (λ i. follows m i (drop j ts) (place ts bytes m j) rest) (let z : m - j ≡ suc (m - suc j) = omega arith in z) ∙ bad-refused _ (place ts bytes m j) rest number bad
+    told-replay bytes (not-next m j t rest l b k f) = here b ∙ ap (λ i. follows m i (drop j ts) (place ts bytes m j) (coded t ++ rest)) (let z : m - j ≡ suc (m - suc j) = omega arith in z) ∙ low-next (judged (follows m (m - suc j)) (drop j ts) (place ts bytes m j)) (place ts bytes m j) t rest k ∙ not-judged (follows m (m - suc j)) bytes j t (place ts bytes m j) rest f
+    told-replay bytes (left-over m c rest b) = here b ∙ ap (λ i. follows m i (drop m ts) (place ts bytes m m) (c ∷ rest)) (let z : m - m ≡ 0 = omega arith in z)
+
+    pub replay-iff : (bytes : List ℕ) → Octets bytes → (x : Replay) → (replay-of ts bytes ≡ x) ↔ Told ts bytes x
+    replay-iff bytes h x = ((λ e. subst (Told ts bytes) e (replay-told bytes h)), told-replay bytes)
