@@ -43,11 +43,18 @@ module _ {o : Office} (a : Acceptable o) where
   }))
 
   -- and no other
-  pub accepts-only : (bytes : List ℕ) → Octets bytes → (n : ℕ) → replay o bytes ≡ accepts n → (n ≤ length h) × (bytes ≡ log-of (take n h))
+  accepts-only : (bytes : List ℕ) → Octets bytes → (n : ℕ) → replay o bytes ≡ accepts n → (n ≤ length h) × (bytes ≡ log-of (take n h))
   accepts-only bytes b n e = told (replay-iff h (history-low a 0) bytes b (accepts n) .0 e)
     where
       told : {n : ℕ} → Told h bytes (accepts n) → (n ≤ length h) × (bytes ≡ log-of (take n h))
       told (all-peels n b) = (b .there, b .reads ∙ append-nil (codes (n ∷ take n h)) ∙ sym (log-is n (b .there)))
+
+  pub accepted-exactly : (bytes : List ℕ) → Octets bytes → (n : ℕ) → (replay o bytes ≡ accepts n) ↔ ((n ≤ length h) × (bytes ≡ log-of (take n h)))
+  accepted-exactly bytes b n = (accepts-only bytes b n, λ (l, e). ap (replay o) e ∙ accepts-log n l)
+
+  -- so the first n peels have one log
+  pub one-log : (n : ℕ) (bytes others : List ℕ) → Octets bytes → Octets others → replay o bytes ≡ accepts n → replay o others ≡ accepts n → bytes ≡ others
+  one-log n bytes others b c e f = accepts-only bytes b n e .1 ∙ sym (accepts-only others c n f .1)
 
   -- every refusal, at its place
   pub refuses-exactly : (bytes : List ℕ) → Octets bytes → (number place : ℕ) → (replay o bytes ≡ faults number place) ↔ Told h bytes (faults number place)

@@ -29,8 +29,8 @@ module _ (ts : List ℕ) where
       ∙ codes-append (m ∷ take j ts) (getD ts j 0 ∷ [])
       ∙ ap (λ l. codes (m ∷ take j ts) ++ l) (append-nil (coded (getD ts j 0)))
 
-  place-more : (bytes : List ℕ) (m j : ℕ) → j < length ts → place ts bytes m (suc j) ≡ place ts bytes m j + length (coded (getD ts j 0))
-  place-more bytes m j l = ap length (codes-more m j l) ∙ length-append (codes (m ∷ take j ts)) (coded (getD ts j 0))
+  place-more : (m j : ℕ) → j < length ts → place ts m (suc j) ≡ place ts m j + length (coded (getD ts j 0))
+  place-more m j l = ap length (codes-more m j l) ∙ length-append (codes (m ∷ take j ts)) (coded (getD ts j 0))
 
   -- ---- from the answer to what it tells
   module _ (bytes : List ℕ) where
@@ -44,42 +44,42 @@ module _ (ts : List ℕ) where
 
     -- one number, where the others after it are told
     one-told : (others : List ℕ → ℕ → List ℕ → Replay) (m j : ℕ) (rest : List ℕ) → j < m → Begins ts bytes m j rest → Octets rest
-        → ((after : List ℕ) → Begins ts bytes m (suc j) after → Octets after → Told ts bytes (others (drop (suc j) ts) (place ts bytes m (suc j)) after))
-        → Told ts bytes (numbered (judged others (drop j ts) (place ts bytes m j)) (place ts bytes m j) (number-in rest))
+        → ((after : List ℕ) → Begins ts bytes m (suc j) after → Octets after → Told ts bytes (others (drop (suc j) ts) (place ts m (suc j)) after))
+        → Told ts bytes (numbered (judged others (drop j ts) (place ts m j)) (place ts m j) (number-in rest))
     unfolding numbered judged
     one-told others m j rest l b h ih = step (number-in rest) (read-stands rest h)
       where
-        next : (n : ℕ) (after : List ℕ) → n ≤ 2042 → rest ≡ coded n ++ after → Dec (j < length ts) → Told ts bytes (judged others (drop j ts) (place ts bytes m j) n after)
+        next : (n : ℕ) (after : List ℕ) → n ≤ 2042 → rest ≡ coded n ++ after → Dec (j < length ts) → Told ts bytes (judged others (drop j ts) (place ts m j) n after)
         next n after low e (no f) =
-            subst (λ l. Told ts bytes (judged others l (place ts bytes m j) n after)) (sym (drop-of-length-le ts {i = j} (omega arith)))
+            subst (λ l. Told ts bytes (judged others l (place ts m j) n after)) (sym (drop-of-length-le ts {i = j} (omega arith)))
             (not-next m j n after l (subst (Begins ts bytes m j) e b) low (λ p. f (p .0)))
         next n after low e (yes k) =
-            subst (λ l. Told ts bytes (judged others l (place ts bytes m j) n after)) (sym (drop-cons ts j 0 k)) (same (eqb n (getD ts j 0)) refl)
+            subst (λ l. Told ts bytes (judged others l (place ts m j) n after)) (sym (drop-cons ts j 0 k)) (same (eqb n (getD ts j 0)) refl)
           where
-            same : (x : Bool) → eqb n (getD ts j 0) ≡ x → Told ts bytes (cond x (others (drop (suc j) ts) (place ts bytes m j + length (coded n)) after) (faults 43 (place ts bytes m j)))
+            same : (x : Bool) → eqb n (getD ts j 0) ≡ x → Told ts bytes (cond x (others (drop (suc j) ts) (place ts m j + length (coded n)) after) (faults 43 (place ts m j)))
             same true z =
                 let y : n ≡ getD ts j 0 = eqb-iff .0 z in
                 let w : rest ≡ coded (getD ts j 0) ++ after = e ∙ ap (λ i. coded i ++ after) y in
-                subst (λ i. Told ts bytes (others (drop (suc j) ts) i after)) (place-more bytes m j k ∙ ap (λ i. place ts bytes m j + length (coded i)) (sym y))
+                subst (λ i. Told ts bytes (others (drop (suc j) ts) i after)) (place-more m j k ∙ ap (λ i. place ts m j + length (coded i)) (sym y))
                 (ih after (begins-more (subst (Begins ts bytes m j) w b) l k) (octets-after (coded n) after (subst Octets e h)))
             same false z = not-next m j n after l (subst (Begins ts bytes m j) e b) low (λ p. false-iff .0 z (eqb-iff .1 (sym (p .1))))
 
-        step : (x : Number) → Stands rest x → Told ts bytes (numbered (judged others (drop j ts) (place ts bytes m j)) (place ts bytes m j) x)
+        step : (x : Number) → Stands rest x → Told ts bytes (numbered (judged others (drop j ts) (place ts m j)) (place ts m j) x)
         step x (is-cut c) = bad-number m j 41 rest l b (cut-short c)
         step x (is-long c) = bad-number m j 42 rest l b (not-shortest c)
         step x (is-coded n after k e) = high (ltb 2042 n) refl
           where
-            high : (x : Bool) → ltb 2042 n ≡ x → Told ts bytes (cond x (faults 42 (place ts bytes m j)) (judged others (drop j ts) (place ts bytes m j) n after))
+            high : (x : Bool) → ltb 2042 n ≡ x → Told ts bytes (cond x (faults 42 (place ts m j)) (judged others (drop j ts) (place ts m j) n after))
             high true f = bad-number m j 42 rest l b (too-high n after (ltb-true 2042 n f) k e)
             high false f = next n after (ltb-false 2042 n f) e (decLt j (length ts))
 
-    told-from : (i m j : ℕ) (rest : List ℕ) → j + i ≡ m → Begins ts bytes m j rest → Octets rest → Told ts bytes (follows m i (drop j ts) (place ts bytes m j) rest)
+    told-from : (i m j : ℕ) (rest : List ℕ) → j + i ≡ m → Begins ts bytes m j rest → Octets rest → Told ts bytes (follows m i (drop j ts) (place ts m j) rest)
     unfolding follows ended
     told-from zero m j rest e b h = end rest (let z : j ≡ m = omega arith in z) b
       where
-        end : (rest : List ℕ) → j ≡ m → Begins ts bytes m j rest → Told ts bytes (ended m (place ts bytes m j) rest)
+        end : (rest : List ℕ) → j ≡ m → Begins ts bytes m j rest → Told ts bytes (ended m (place ts m j) rest)
         end [] z b = all-peels m (subst (λ i. Begins ts bytes m i []) z b)
-        end (c ∷ rest) z b = subst (λ i. Told ts bytes (faults 44 (place ts bytes m i))) (sym z) (left-over m c rest (subst (λ i. Begins ts bytes m i (c ∷ rest)) z b))
+        end (c ∷ rest) z b = subst (λ i. Told ts bytes (faults 44 (place ts m i))) (sym z) (left-over m c rest (subst (λ i. Begins ts bytes m i (c ∷ rest)) z b))
     told-from (suc i) m j rest e b h = one-told (follows m i) m j rest (omega arith) b h (λ after c k. told-from i m (suc j) after (omega arith) c k)
 
     pub replay-told : Octets bytes → Told ts bytes (replay-of ts bytes)
@@ -121,25 +121,25 @@ module _ (ts : List ℕ) where
         ∙ reads-on m j (coded t ++ rest) l (omega arith) (omega arith)
         ∙ ap₂ (λ i us. follows m i us at (coded t ++ rest)) (let z : m - j ≡ suc (m - suc j) = omega arith in z) (drop-cons ts j 0 c)
         ∙ one-read m (m - suc j) t (drop (suc j) ts) at rest (low j c)
-        ∙ ap (λ at. follows m (m - suc j) (drop (suc j) ts) at rest) (sym (place-more [] m j c))
+        ∙ ap (λ at. follows m (m - suc j) (drop (suc j) ts) at rest) (sym (place-more m j c))
 
-    here : {bytes : List ℕ} {m j : ℕ} {rest : List ℕ} → Begins ts bytes m j rest → replay-of ts bytes ≡ follows m (m - j) (drop j ts) (place ts bytes m j) rest
+    here : {bytes : List ℕ} {m j : ℕ} {rest : List ℕ} → Begins ts bytes m j rest → replay-of ts bytes ≡ follows m (m - j) (drop j ts) (place ts m j) rest
     here {m = m} {j} {rest} b = ap (replay-of ts) (b .reads) ∙ reads-on m j rest (b .low) (b .asked) (b .there)
 
-    not-judged : (others : List ℕ → ℕ → List ℕ → Replay) (bytes : List ℕ) (j t at : ℕ) (rest : List ℕ) → (Peel ts bytes j t → ⊥) → judged others (drop j ts) at t rest ≡ faults 43 at
+    not-judged : (others : List ℕ → ℕ → List ℕ → Replay) (j t at : ℕ) (rest : List ℕ) → (Peel ts j t → ⊥) → judged others (drop j ts) at t rest ≡ faults 43 at
     unfolding judged
-    not-judged others bytes j t at rest f = elim (decLt j (length ts)) [
+    not-judged others j t at rest f = elim (decLt j (length ts)) [
       | no g ↦ rw (drop-of-length-le ts {i = j} (omega arith)) refl
       | yes l ↦ rw (drop-cons ts j 0 l, false-iff .1 (λ e. f (l, sym (eqb-iff {a = t} .0 e)))) refl
     ]
 
     pub told-replay : (bytes : List ℕ) {x : Replay} → Told ts bytes x → replay-of ts bytes ≡ x
     unfolding follows ended replay-of
-    told-replay bytes (all-peels n b) = here b ∙ ap (λ i. follows n i (drop n ts) (place ts bytes n n) []) (let z : n - n ≡ 0 = omega arith in z)
+    told-replay bytes (all-peels n b) = here b ∙ ap (λ i. follows n i (drop n ts) (place ts n n) []) (let z : n - n ≡ 0 = omega arith in z)
     told-replay bytes (bad-count number b) = bad-refused (λ m rest. follows m m ts (length (coded m)) rest) 0 bytes number b
-    told-replay bytes (bad-number m j number rest l b bad) = here b ∙ ap (λ i. follows m i (drop j ts) (place ts bytes m j) rest) (let z : m - j ≡ suc (m - suc j) = omega arith in z) ∙ bad-refused _ (place ts bytes m j) rest number bad
-    told-replay bytes (not-next m j t rest l b k f) = here b ∙ ap (λ i. follows m i (drop j ts) (place ts bytes m j) (coded t ++ rest)) (let z : m - j ≡ suc (m - suc j) = omega arith in z) ∙ low-next (judged (follows m (m - suc j)) (drop j ts) (place ts bytes m j)) (place ts bytes m j) t rest k ∙ not-judged (follows m (m - suc j)) bytes j t (place ts bytes m j) rest f
-    told-replay bytes (left-over m c rest b) = here b ∙ ap (λ i. follows m i (drop m ts) (place ts bytes m m) (c ∷ rest)) (let z : m - m ≡ 0 = omega arith in z)
+    told-replay bytes (bad-number m j number rest l b bad) = here b ∙ ap (λ i. follows m i (drop j ts) (place ts m j) rest) (let z : m - j ≡ suc (m - suc j) = omega arith in z) ∙ bad-refused _ (place ts m j) rest number bad
+    told-replay bytes (not-next m j t rest l b k f) = here b ∙ ap (λ i. follows m i (drop j ts) (place ts m j) (coded t ++ rest)) (let z : m - j ≡ suc (m - suc j) = omega arith in z) ∙ low-next (judged (follows m (m - suc j)) (drop j ts) (place ts m j)) (place ts m j) t rest k ∙ not-judged (follows m (m - suc j)) j t (place ts m j) rest f
+    told-replay bytes (left-over m c rest b) = here b ∙ ap (λ i. follows m i (drop m ts) (place ts m m) (c ∷ rest)) (let z : m - m ≡ 0 = omega arith in z)
 
     pub replay-iff : (bytes : List ℕ) → Octets bytes → (x : Replay) → (replay-of ts bytes ≡ x) ↔ Told ts bytes x
     replay-iff bytes h x = ((λ e. subst (Told ts bytes) e (replay-told bytes h)), told-replay bytes)

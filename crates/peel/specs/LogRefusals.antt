@@ -28,15 +28,8 @@ pub data BadNumber (bytes : List ℕ) : ℕ → Type 0 where
   too-high : (n : ℕ) (rest : List ℕ) → 2042 < n → n < 16384 → bytes ≡ coded n ++ rest → BadNumber bytes 42
 
 -- ---- a log, where ts are the peels of a draw at limit 0
-module _ (ts bytes : List ℕ) where
-  -- it begins with a count of m and the first j peels, and the rest comes then
-  pub record Begins (m j : ℕ) (rest : List ℕ) : Type 0 where
-    pub low : m ≤ 2042
-    pub asked : j ≤ m
-    pub there : j ≤ length ts
-    pub reads : bytes ≡ codes (m ∷ take j ts) ++ rest
-
-  -- where that is
+module _ (ts : List ℕ) where
+  -- where a count of m and the first j peels end
   abbrev pub place : ℕ → ℕ → ℕ
   place m j = length (codes (m ∷ take j ts))
 
@@ -44,10 +37,18 @@ module _ (ts bytes : List ℕ) where
   abbrev pub Peel : ℕ → ℕ → Type 0
   Peel j t = (j < length ts) × (getD ts j 0 ≡ t)
 
-  -- what the replay answers
-  pub data Told : Replay → Type 0 where
-    all-peels : (n : ℕ) → Begins n n [] → Told (accepts n)
-    bad-count : (number : ℕ) → BadNumber bytes number → Told (faults number 0)
-    bad-number : (m j number : ℕ) (rest : List ℕ) → j < m → Begins m j rest → BadNumber rest number → Told (faults number (place m j))
-    not-next : (m j t : ℕ) (rest : List ℕ) → j < m → Begins m j (coded t ++ rest) → t ≤ 2042 → (Peel j t → ⊥) → Told (faults 43 (place m j))
-    left-over : (m b : ℕ) (rest : List ℕ) → Begins m m (b ∷ rest) → Told (faults 44 (place m m))
+  module _ (bytes : List ℕ) where
+    -- the log begins with these, and the rest comes then
+    pub record Begins (m j : ℕ) (rest : List ℕ) : Type 0 where
+      pub low : m ≤ 2042
+      pub asked : j ≤ m
+      pub there : j ≤ length ts
+      pub reads : bytes ≡ codes (m ∷ take j ts) ++ rest
+
+    -- what the replay answers
+    pub data Told : Replay → Type 0 where
+      all-peels : (n : ℕ) → Begins n n [] → Told (accepts n)
+      bad-count : (number : ℕ) → BadNumber bytes number → Told (faults number 0)
+      bad-number : (m j number : ℕ) (rest : List ℕ) → j < m → Begins m j rest → BadNumber rest number → Told (faults number (place m j))
+      not-next : (m j t : ℕ) (rest : List ℕ) → j < m → Begins m j (coded t ++ rest) → t ≤ 2042 → (Peel j t → ⊥) → Told (faults 43 (place m j))
+      left-over : (m b : ℕ) (rest : List ℕ) → Begins m m (b ∷ rest) → Told (faults 44 (place m m))
