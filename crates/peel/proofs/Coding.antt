@@ -12,7 +12,7 @@ use lib.Seq.{getD-append-add}
 use borrow.Author.Tests.{ltb-true, ltb-false, lt-ltb, le-ltb}
 use Rattle.laws.proofs.Test.{false-iff, or-iff, eqb-iff, leb-iff}
 use Rattle.peel.specs.Log.{coded, codes, Number, cut, ill-formed, formed, second-group, number-in, Replay, faults, numbered}
-use Rattle.peel.specs.LogRefusals.{Octets, Cut, nothing-left, one-group, Long, two-groups, BadNumber, cut-short, not-shortest, too-high}
+use Rattle.peel.specs.LogRefusals.{Octets, Cut, nothing-left, one-group, Overlong, two-groups, BadNumber, cut-short, not-shortest, too-high}
 
 -- a second group that is 0, or has its top bit set
 longer : (c : ℕ) → ((eqb c 0 || leb 128 c) ≡ true) ↔ ((c ≡ 0) ⊎ (128 ≤ c))
@@ -52,7 +52,7 @@ coded-read n rest l = step (ltb n 128) refl
 -- what stands in front, in plain logic
 pub data Stands (bytes : List ℕ) : Number → Type 0 where
   is-cut : Cut bytes → Stands bytes cut
-  is-long : Long bytes → Stands bytes ill-formed
+  is-overlong : Overlong bytes → Stands bytes ill-formed
   is-coded : (n : ℕ) (rest : List ℕ) → n < 16384 → bytes ≡ coded n ++ rest → Stands bytes (formed n rest)
 
 -- ... is what is read
@@ -60,7 +60,7 @@ pub stands-read : {bytes : List ℕ} {x : Number} → Stands bytes x → number-
 unfolding number-in second-group
 stands-read (is-cut nothing-left) = refl
 stands-read (is-cut (one-group b l)) = rw (le-ltb b 128 l)
-stands-read (is-long (two-groups b c rest l e)) = rw (le-ltb b 128 l, longer c .1 e)
+stands-read (is-overlong (two-groups b c rest l e)) = rw (le-ltb b 128 l, longer c .1 e)
 stands-read (is-coded n rest l e) = ap number-in e ∙ coded-read n rest l
 
 -- ... and the other way round
@@ -78,7 +78,7 @@ read-stands (b ∷ bytes) h = first (ltb b 128) refl bytes (h 0 (omega arith))
         l = ltb-false b 128 e
 
         second : (x : Bool) → (eqb c 0 || leb 128 c) ≡ x → Stands (b ∷ c ∷ rest) (cond x ill-formed (formed (b - 128 + 128 * c) rest))
-        second true f = is-long (two-groups b c rest l (longer c .0 f))
+        second true f = is-overlong (two-groups b c rest l (longer c .0 f))
         second false f =
             let u : c ≡ 0 → ⊥ = λ z. false-iff .0 f (longer c .1 (inl z)) in
             let w : 128 ≤ c → ⊥ = λ z. false-iff .0 f (longer c .1 (inr z)) in
@@ -92,7 +92,7 @@ read-stands (b ∷ bytes) h = first (ltb b 128) refl bytes (h 0 (omega arith))
 pub bad-refused : (next : ℕ → List ℕ → Replay) (at : ℕ) (bytes : List ℕ) (number : ℕ) → BadNumber bytes number → numbered next at (number-in bytes) ≡ faults number at
 unfolding numbered
 bad-refused next at bytes number (cut-short c) = ap (numbered next at) (stands-read (is-cut c))
-bad-refused next at bytes number (not-shortest c) = ap (numbered next at) (stands-read (is-long c))
+bad-refused next at bytes number (not-shortest c) = ap (numbered next at) (stands-read (is-overlong c))
 bad-refused next at bytes number (too-high n rest h l e) = ap (numbered next at) (stands-read (is-coded n rest l e)) ∙ rw (lt-ltb 2042 n h)
 
 -- a number in front goes on with the next
@@ -125,3 +125,16 @@ pub octets-codes : (ns : List ℕ) → ((j : ℕ) → j < length ns → getD ns 
 unfolding codes
 octets-codes [] h = λ i l. absurd (omega arith)
 octets-codes (n ∷ ns) h = octets-append (coded n) (codes ns) (octets-coded n (h 0 (omega arith))) (octets-codes ns (λ j l. h (suc j) (omega arith)))
+
+coded-length : (n : ℕ) → length (coded n) ≤ 2
+unfolding coded
+coded-length n = step (ltb n 128)
+  where
+    step : (b : Bool) → length (cond b (n ∷ []) ((n % 128 + 128) ∷ n / 128 ∷ [])) ≤ 2
+    step true = omega arith
+    step false = omega arith
+
+pub codes-length : (ns : List ℕ) → length (codes ns) ≤ 2 * length ns
+unfolding codes
+codes-length [] = omega arith
+codes-length (n ∷ ns) = let h = codes-length ns in let c = coded-length n in let e = length-append (coded n) (codes ns) in omega arith

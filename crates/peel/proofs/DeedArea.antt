@@ -1,18 +1,19 @@
 -- Document 02, 6/13, in one statement: the area by triangles is the area by the ring, after each peel; the hull's is the outline's and those of
 -- the triangles named in the history; and every ring runs counterclockwise. Assumes nothing.
-use mathlib.Core.Path.{_≡_, sym, ap, subst, _∙_}
-use mathlib.Core.List.{List}
+use mathlib.Core.Path.{_≡_, refl, sym, ap, subst, _∙_}
+use mathlib.Core.List.{List, [], _∷_, map}
 use Prim.Native.Nat.{ℕ, _+_}
 use lib.IntN.{pos, _+ℤ_}
-use lib.ListN.{length, take}
+use lib.ListN.{length, getD, take}
 use lib.Seq.{take-length}
 use lib.Signed.{_<ℤ_}
-use Rattle.sheet.specs.Office.{Office}
+use Rattle.sheet.specs.Plane.{Point}
+use Rattle.sheet.specs.Office.{Office, point}
 use Rattle.sheet.specs.Acceptable.{Acceptable}
 use Rattle.rim.specs.Peel.{whole, drawn, ring, doubled}
 use Rattle.rim.specs.Reached.{Reached, begun}
 use Rattle.rim.proofs.Reached.{sound}
-use Rattle.peel.specs.Shoelace.{ring-lace}
+use Rattle.peel.specs.Shoelace.{shoelace, ring-lace, spots}
 use Rattle.peel.specs.History.{history, areas, without}
 use Rattle.peel.proofs.DrawnOutline.{stripped-reached}
 use Rattle.peel.proofs.Shoelace.{doubled-laced, ring-positive}
@@ -51,3 +52,14 @@ module _ {o : Office} (a : Acceptable o) where
     drawn-deed =
         subst (λ k. Deed o k (history o limit)) (sym (drawn-without o limit))
         (subst (λ ts. Deed o (without (whole o) ts) ts) (take-length (history o limit)) (after-each (length (history o limit))))
+
+-- the polygon written of a ring has the ring's points
+ring-spots : (o : Office) (row : List ℕ) → spots (map (λ p. getD (o .xs) p 0) row) (map (λ p. getD (o .ys) p 0) row) ≡ map (point o) row
+unfolding spots
+ring-spots o [] = refl
+ring-spots o (p ∷ row) = ap {B = List Point} (λ l. point o p ∷ l) (ring-spots o row)
+
+-- so the polygon of every drawn outline runs counterclockwise
+pub drawn-polygon : {o : Office} → Acceptable o → (limit : ℕ)
+    → pos 0 <ℤ shoelace (spots (map (λ p. getD (o .xs) p 0) (ring o (drawn o limit))) (map (λ p. getD (o .ys) p 0) (ring o (drawn o limit))))
+drawn-polygon {o} a limit = subst (λ l. pos 0 <ℤ shoelace l) (sym (ring-spots o (ring o (drawn o limit)))) (drawn-deed a limit .positive)

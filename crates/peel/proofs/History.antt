@@ -1,23 +1,23 @@
--- The history of a draw: its marks are those without the triangles of the history, a higher limit's history is the front of a lower one's, and,
--- of an acceptable office, its first peels are peels of best sides whose areas are what is gone.
+-- The history of a draw: its marks are those without the triangles of the history, a higher limit's history is the front of a lower one's, what
+-- is left of it is the history from there on; and, of an acceptable office, its first peels are peels of best sides whose areas are what is gone.
 -- Assumes nothing.
 use mathlib.Core.Path.{_≡_, refl, sym, ap, subst, _∙_}
 use mathlib.Core.Bool.{Bool, true, false, cond}
 use mathlib.Core.List.{List, [], _∷_}
 use mathlib.Core.Option.{Option, none, some}
-use Prim.Native.Nat.{ℕ, zero, suc, _+_, _/_, _<_, _≤_}
+use Prim.Native.Nat.{ℕ, zero, suc, _+_, _-_, _/_, _<_, _≤_}
 use native.Mathlib.Omega.{arith}
 use lib.Dec.{ltb}
-use lib.ListN.{length, getD, take}
+use lib.ListN.{length, getD, take, drop}
 use lib.Seq.{take-nil, take-length}
 use borrow.Author.Tests.{ltb-true, ltb-false}
-use Rattle.sheet.specs.Office.{Office, sides, triangles}
+use Rattle.sheet.specs.Office.{Office, points, sides, triangles}
 use Rattle.sheet.specs.Acceptable.{Acceptable}
 use Rattle.rim.specs.Peel.{long, best, peel, turned, peels, whole, drawn, doubled}
 use Rattle.rim.specs.Reached.{Stripped, none-yet, one-more}
 use Rattle.rim.proofs.Tallied.{doubled-after}
 use Rattle.rim.proofs.Reached.{sound, peelable}
-use Rattle.rim.proofs.Rings.{some-kept}
+use Rattle.rim.proofs.Rings.{peels-fit}
 use Rattle.rim.proofs.TopSide.{Top, best-top}
 use Rattle.peel.specs.History.{noted, history-from, history, areas, without}
 use Rattle.peel.proofs.DrawnOutline.{stripped-reached}
@@ -64,6 +64,46 @@ module _ (o : Office) where
     pub history-front : history o high ≡ take (length (history o high)) (history o low)
     unfolding history
     history-front = front-from (triangles o) (whole o)
+
+  -- ---- what is left of it
+  module _ (limit : ℕ) where
+    -- once nothing is peeled, nothing is
+    ends-here : (others : List ℕ → List ℕ) (k : List ℕ) → noted o others limit k (best o k) ≡ [] → (fuel : ℕ) → history-from o fuel limit k ≡ []
+    unfolding history-from noted
+    ends-here others k e zero = refl
+    ends-here others k e (suc fuel) = at-best (best o k) e
+      where
+        step : (s : ℕ) (b : Bool) → cond b (s / 3 ∷ others (peel k s)) [] ≡ [] → cond b (s / 3 ∷ history-from o fuel limit (peel k s)) [] ≡ []
+        step s true e = absurd (let z = ap length e in omega arith)
+        step s false e = refl
+
+        at-best : (b : Option ℕ) → noted o others limit k b ≡ [] → noted o (history-from o fuel limit) limit k b ≡ []
+        at-best none e = refl
+        at-best (some s) e = step s (ltb limit (long o s)) e
+
+    abbrev Rest : ℕ → ℕ → List ℕ → List ℕ → Type 0
+    Rest fuel j k ts = drop j ts ≡ history-from o (fuel - j) limit (without k (take j ts))
+
+    turn-rest : (fuel j : ℕ) (k : List ℕ) (b : Option ℕ) → best o k ≡ b → ((i : List ℕ) → Rest fuel j i (history-from o fuel limit i))
+        → Rest (suc fuel) (suc j) k (noted o (history-from o fuel limit) limit k b)
+    unfolding noted without
+    turn-rest fuel j k none e ih = sym (ends-here (history-from o fuel limit) k (ap (noted o (history-from o fuel limit) limit k) e) (suc fuel - suc j))
+    turn-rest fuel j k (some s) e ih = step (ltb limit (long o s)) refl
+      where
+        step : (b : Bool) → ltb limit (long o s) ≡ b → Rest (suc fuel) (suc j) k (cond b (s / 3 ∷ history-from o fuel limit (peel k s)) [])
+        step true f = ih (peel k s) ∙ ap (λ n. history-from o n limit (without (peel k s) (take j (history-from o fuel limit (peel k s))))) (let z : fuel - j ≡ suc fuel - suc j = omega arith in z)
+        step false f = sym (ends-here (history-from o fuel limit) k (ap (noted o (history-from o fuel limit) limit k) e ∙ ap (λ b. cond b (s / 3 ∷ history-from o fuel limit (peel k s)) []) f) (suc fuel - suc j))
+
+    rest-from : (fuel j : ℕ) (k : List ℕ) → Rest fuel j k (history-from o fuel limit k)
+    unfolding history-from without
+    rest-from fuel zero k = ap (λ n. history-from o n limit k) (let z : fuel ≡ fuel - 0 = omega arith in z)
+    rest-from zero (suc j) k = ap (λ n. history-from o n limit k) (let z : 0 ≡ 0 - suc j = omega arith in z)
+    rest-from (suc fuel) (suc j) k = turn-rest fuel j k (best o k) refl (rest-from fuel j)
+
+    -- what is left after j peels is the history from their marks on
+    pub history-rest : (j : ℕ) → drop j (history o limit) ≡ history-from o (triangles o - j) limit (without (whole o) (take j (history o limit)))
+    unfolding history
+    history-rest j = rest-from (triangles o) j (whole o)
 
 -- ---- of an acceptable office
 -- from marks k, n peels on the way, the triangles ts are the next peels of best sides, and their areas are what is gone
@@ -116,5 +156,5 @@ module _ {o : Office} (a : Acceptable o) (limit : ℕ) where
   pub history-low : (j : ℕ) → j < length (history o limit) → getD (history o limit) j 0 ≤ 2042
   history-low j l = let h = all-leads .there j l in let c = a .corners-bound in omega arith
 
-  pub history-short : length (history o limit) ≤ 2042
-  history-short = let h = some-kept a (sound o a (stripped-reached a limit (all-leads .strips))) in let c = a .corners-bound in omega arith
+  pub history-short : length (history o limit) + 3 ≤ points o
+  history-short = let h = peels-fit a (sound o a (stripped-reached a limit (all-leads .strips))) in omega arith

@@ -1,27 +1,21 @@
--- Document 02, 5/13, in one statement: which logs a replay accepts and what it refuses; and what a replay comes to with steps back, a draw's own log
--- first of all. Assumes nothing.
-use mathlib.Core.Path.{_≡_, refl, sym, ap, subst, _∙_}
-use mathlib.Core.Logic.{_↔_, _⊎_, inl, inr}
-use mathlib.Core.Bool.{Bool, true}
-use mathlib.Core.List.{List, [], _∷_, _++_, append-nil}
-use Prim.Native.Nat.{ℕ, zero, suc, _+_, _-_, _<_, _≤_}
+-- Document 02, 5/13: which logs a replay of an acceptable office accepts, what it refuses, and a draw's own log. Assumes nothing.
+use mathlib.Core.Path.{_≡_, sym, ap, subst, _∙_}
+use mathlib.Core.Logic.{_↔_}
+use mathlib.Core.List.{List, _∷_, append-nil}
+use Prim.Native.Nat.{ℕ, zero, suc, _+_, _<_, _≤_}
 use native.Mathlib.Omega.{arith}
 use lib.ListN.{length, getD, take, length-take}
-use lib.Seq.{length-take-le, take-length}
-use Rattle.sheet.specs.Office.{Office, rims}
-use Rattle.sheet.specs.Verdict.{Verdict, accepted, refused, verdict}
+use lib.Seq.{length-take-le}
+use Rattle.sheet.specs.Office.{Office}
 use Rattle.sheet.specs.Acceptable.{Acceptable}
-use Rattle.sheet.proofs.Accepted.{accepted-lent}
 use Rattle.rim.specs.Peel.{whole, drawn}
 use Rattle.rim.specs.Reached.{Stripped}
 use Rattle.peel.specs.History.{history, without}
-use Rattle.peel.specs.Outcome.{Outcome, draws, refuses, outcome}
-use Rattle.peel.specs.Log.{codes, log-of, log, Replay, accepts, faults, replay, marks-after, stepped-back, by-check, replay-outcome}
-use Rattle.peel.specs.LogRefusals.{Octets, Told, Begins, all-peels}
-use Rattle.peel.proofs.Coding.{octets-codes}
+use Rattle.peel.specs.Log.{codes, log-of, log, accepts, faults, replay, marks-after}
+use Rattle.peel.specs.LogRefusals.{Octets, Told, all-peels}
+use Rattle.peel.proofs.Coding.{octets-codes, codes-length}
 use Rattle.peel.proofs.Replays.{replay-iff, told-replay}
 use Rattle.peel.proofs.History.{drawn-without, history-front, history-leads, history-low, history-short}
-use Rattle.peel.proofs.Outcomes.{draws-iff}
 
 module _ {o : Office} (a : Acceptable o) where
   abbrev h : List ℕ
@@ -36,7 +30,7 @@ module _ {o : Office} (a : Acceptable o) where
   -- is accepted
   pub accepts-log : (n : ℕ) → n ≤ length h → replay o (log-of (take n h)) ≡ accepts n
   accepts-log n l = told-replay h (history-low a 0) (log-of (take n h)) (all-peels n (record {
-    low = let s = history-short a 0 in omega arith;
+    low = let s = history-short a 0 in let c = a .points-bound in omega arith;
     asked = omega arith;
     there = l;
     reads = log-is n l ∙ sym (append-nil (codes (n ∷ take n h)));
@@ -79,64 +73,13 @@ module _ {o : Office} (a : Acceptable o) where
   own-bytes limit = octets-codes (length (history o limit) ∷ history o limit) low
     where
       low : (j : ℕ) → j < suc (length (history o limit)) → getD (length (history o limit) ∷ history o limit) j 0 < 16384
-      low zero l = let s = history-short a limit in omega arith
+      low zero l = let s = history-short a limit in let c = a .points-bound in omega arith
       low (suc j) l = let s = history-low a limit j (omega arith) in omega arith
 
-  -- ---- what a replay comes to
+  -- two bytes a number at most
+  pub own-length : (limit : ℕ) → length (log o limit) ≤ 2044
+  own-length limit = let s = history-short a limit in let c = a .points-bound in let e = codes-length (length (history o limit) ∷ history o limit) in omega arith
 
   -- the marks after n peels are those of n peels of best sides
   pub after-peels : (n : ℕ) → n ≤ length h → Stripped o 0 n (marks-after o n)
   after-peels n l = subst (λ m. Stripped o 0 m (marks-after o n)) (let z : 0 + length (take n h) ≡ n = (let e = length-take-le n h l in omega arith) in z) (history-leads a 0 n .strips)
-
-  -- an accepted log, with steps back
-  pub replays-back : (bytes : List ℕ) (n back : ℕ) → replay o bytes ≡ accepts n → replay-outcome true o bytes back ≡ draws (marks-after o (n - back))
-  unfolding replay-outcome by-check stepped-back
-  replays-back bytes n back e = ap (by-check o bytes back) (accepted-lent true o (rims o) .1 (refl, a, refl)) ∙ ap (stepped-back o back) e
-
-  -- past the start: the whole triangulation
-  pub past-start : (bytes : List ℕ) (n back : ℕ) → replay o bytes ≡ accepts n → n ≤ back → replay-outcome true o bytes back ≡ draws (whole o)
-  unfolding without
-  past-start bytes n back e l = replays-back bytes n back e ∙ ap (λ m. draws (marks-after o m)) (let z : n - back ≡ 0 = omega arith in z)
-
-  -- a draw's own log comes to the draw
-  pub own-replay : (limit : ℕ) → replay-outcome true o (log o limit) 0 ≡ outcome true o limit
-  own-replay limit =
-      replays-back (log o limit) (length (history o limit)) 0 (own-log limit)
-      ∙ ap (λ m. draws (marks-after o m)) (let z : length (history o limit) - 0 ≡ length (history o limit) = omega arith in z)
-      ∙ ap draws (own-marks limit)
-      ∙ sym (draws-iff true o limit (drawn o limit) .1 (refl, a, refl))
-
--- of any office: a replay gives marks exactly where there is room, the office is acceptable, and the log is accepted
-pub replays-iff : (room : Bool) (o : Office) (bytes : List ℕ) (back : ℕ) (k : List ℕ)
-    → (replay-outcome room o bytes back ≡ draws k) ↔ ((room ≡ true) × Acceptable o × (n : ℕ) × (replay o bytes ≡ accepts n) × (k ≡ marks-after o (n - back)))
-unfolding replay-outcome by-check stepped-back
-replays-iff room o bytes back k = (
-  (λ e. to (verdict room o) refl e),
-  (λ (t, a, n, e, z). ap (by-check o bytes back) (accepted-lent room o (rims o) .1 (t, a, refl)) ∙ ap (stepped-back o back) e ∙ ap draws (sym z)),
-)
-  where
-    given : (r : Replay) → replay o bytes ≡ r → stepped-back o back r ≡ draws k → (n : ℕ) × (replay o bytes ≡ accepts n) × (k ≡ marks-after o (n - back))
-    given (accepts n) e f = (n, e, cc)
-    given (faults i p) e f = absurd (let z : _≡_ {A = ℕ} 0 1 = cc in omega arith)
-
-    to : (v : Verdict) → verdict room o ≡ v → by-check o bytes back v ≡ draws k → (room ≡ true) × Acceptable o × (n : ℕ) × (replay o bytes ≡ accepts n) × (k ≡ marks-after o (n - back))
-    to (accepted m) e f = let (t, a, _) = accepted-lent room o m .0 e in let (n, x, y) = given (replay o bytes) refl f in (t, a, n, x, y)
-    to (refused i p) e f = absurd (let z : _≡_ {A = ℕ} 0 1 = cc in omega arith)
-
--- and refuses as the check does, or else as the log is refused
-pub replay-refuses-iff : (room : Bool) (o : Office) (bytes : List ℕ) (back number place : ℕ)
-    → (replay-outcome room o bytes back ≡ refuses number place) ↔ ((verdict room o ≡ refused number place) ⊎ ((room ≡ true) × Acceptable o × (replay o bytes ≡ faults number place)))
-unfolding replay-outcome by-check stepped-back
-replay-refuses-iff room o bytes back number place = ((λ e. to (verdict room o) refl e), from)
-  where
-    given : (r : Replay) → stepped-back o back r ≡ refuses number place → r ≡ faults number place
-    given (accepts n) f = absurd (let z : _≡_ {A = ℕ} 0 1 = cc in omega arith)
-    given (faults i p) f = cc
-
-    to : (v : Verdict) → verdict room o ≡ v → by-check o bytes back v ≡ refuses number place → (v ≡ refused number place) ⊎ ((room ≡ true) × Acceptable o × (replay o bytes ≡ faults number place))
-    to (accepted m) e f = let (t, a, _) = accepted-lent room o m .0 e in inr (t, a, given (replay o bytes) f)
-    to (refused i p) e f = inl cc
-
-    from : (verdict room o ≡ refused number place) ⊎ ((room ≡ true) × Acceptable o × (replay o bytes ≡ faults number place)) → by-check o bytes back (verdict room o) ≡ refuses number place
-    from (inl e) = ap (by-check o bytes back) e
-    from (inr (t, a, e)) = ap (by-check o bytes back) (accepted-lent room o (rims o) .1 (t, a, refl)) ∙ ap (stepped-back o back) e

@@ -13,7 +13,7 @@ use borrow.Author.Tests.{ltb-true, ltb-false}
 use Rattle.laws.proofs.Test.{false-iff, eqb-iff}
 use Rattle.peel.specs.Log.{coded, codes, Number, formed, number-in, Replay, accepts, faults, numbered, judged, ended, follows, replay-of}
 use Rattle.peel.specs.LogRefusals.{Octets, BadNumber, cut-short, not-shortest, too-high, Begins, place, Peel, Told, all-peels, bad-count, bad-number, not-next, left-over}
-use Rattle.peel.proofs.Coding.{Stands, is-cut, is-long, is-coded, read-stands, bad-refused, low-next, octets-after}
+use Rattle.peel.proofs.Coding.{Stands, is-cut, is-overlong, is-coded, read-stands, bad-refused, low-next, octets-after}
 
 codes-append : (ns ms : List ℕ) → codes (ns ++ ms) ≡ codes ns ++ codes ms
 unfolding codes
@@ -66,7 +66,7 @@ module _ (ts : List ℕ) where
 
         step : (x : Number) → Stands rest x → Told ts bytes (numbered (judged others (drop j ts) (place ts m j)) (place ts m j) x)
         step x (is-cut c) = bad-number m j 41 rest l b (cut-short c)
-        step x (is-long c) = bad-number m j 42 rest l b (not-shortest c)
+        step x (is-overlong c) = bad-number m j 42 rest l b (not-shortest c)
         step x (is-coded n after k e) = high (ltb 2042 n) refl
           where
             high : (x : Bool) → ltb 2042 n ≡ x → Told ts bytes (cond x (faults 42 (place ts m j)) (judged others (drop j ts) (place ts m j) n after))
@@ -88,7 +88,7 @@ module _ (ts : List ℕ) where
       where
         step : (x : Number) → Stands bytes x → Told ts bytes (numbered (λ m rest. follows m m ts (length (coded m)) rest) 0 x)
         step x (is-cut c) = bad-count 41 (cut-short c)
-        step x (is-long c) = bad-count 42 (not-shortest c)
+        step x (is-overlong c) = bad-count 42 (not-shortest c)
         step x (is-coded m rest k e) = high (ltb 2042 m) refl
           where
             high : (x : Bool) → ltb 2042 m ≡ x → Told ts bytes (cond x (faults 42 0) (follows m m ts (length (coded m)) rest))

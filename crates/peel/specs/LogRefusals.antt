@@ -18,13 +18,13 @@ pub data Cut : List ℕ → Type 0 where
   one-group : (b : ℕ) → 128 ≤ b → Cut (b ∷ [])
 
 -- the second group is 0, or has its top bit set
-pub data Long : List ℕ → Type 0 where
-  two-groups : (b c : ℕ) (rest : List ℕ) → 128 ≤ b → (c ≡ 0) ⊎ (128 ≤ c) → Long (b ∷ c ∷ rest)
+pub data Overlong : List ℕ → Type 0 where
+  two-groups : (b c : ℕ) (rest : List ℕ) → 128 ≤ b → (c ≡ 0) ⊎ (128 ≤ c) → Overlong (b ∷ c ∷ rest)
 
 -- what is wrong with the number in front
 pub data BadNumber (bytes : List ℕ) : ℕ → Type 0 where
   cut-short : Cut bytes → BadNumber bytes 41
-  not-shortest : Long bytes → BadNumber bytes 42
+  not-shortest : Overlong bytes → BadNumber bytes 42
   too-high : (n : ℕ) (rest : List ℕ) → 2042 < n → n < 16384 → bytes ≡ coded n ++ rest → BadNumber bytes 42
 
 -- ---- a log, where ts are the peels of a draw at limit 0
