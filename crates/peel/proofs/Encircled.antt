@@ -11,7 +11,7 @@ use lib.IntN.{ℤ, pos}
 use Rattle.laws.proofs.Test.{false-iff, eqb-iff, any-iff, same-answer}
 use Rattle.laws.proofs.Round.{early}
 use Rattle.sheet.specs.Plane.{Point}
-use Rattle.sheet.specs.Office.{Office, points, sides, point, tail, head}
+use Rattle.sheet.specs.Office.{Office, points, point, tail, head}
 use Rattle.sheet.specs.Acceptable.{Acceptable}
 use Rattle.sheet.proofs.Sign.{Pos, Non, opp, either, both}
 use Rattle.sheet.proofs.Side.{own-triangle}

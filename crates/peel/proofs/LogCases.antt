@@ -1,18 +1,16 @@
 -- Logs and areas of two offices of the dozen: the printed office and case 4, whole logs, damaged logs, steps back, and the hull's area. Assumes nothing.
 use mathlib.Core.Path.{_≡_, refl}
 use mathlib.Core.Bool.{true}
-use mathlib.Core.List.{List, [], _∷_, map}
-use Prim.Native.Nat.{ℕ}
-use lib.IntN.{ℤ, pos}
+use mathlib.Core.List.{[], _∷_, map}
+use lib.IntN.{pos}
 use Rattle.laws.specs.First.{first, atFirst, count, sum, walk, stepped, among, once}
 use Rattle.sheet.specs.Plane.{turn, squared, circle}
-use Rattle.sheet.specs.Office.{Office}
 use Rattle.sheet.specs.Verdict.{verdict}
-use Rattle.rim.specs.Peel.{rim, on-rim, removable, before, better, best-from, best, turned, peels, whole, drawn, ring, doubled}
+use Rattle.rim.specs.Peel.{rim, on-rim, removable, before, better, best-from, best, turned, peels, whole, drawn, ring}
 use Rattle.peel.specs.Shoelace.{laces, shoelace, ring-lace}
 use Rattle.peel.specs.History.{noted, history-from, history, areas, without}
-use Rattle.peel.specs.Outcome.{Outcome, draws, refuses}
-use Rattle.peel.specs.Log.{coded, codes, second-group, number-in, log, Replay, accepts, faults, numbered, judged, ended, follows, replay-of, replay, stepped-back, by-check, replay-outcome}
+use Rattle.peel.specs.Outcome.{draws}
+use Rattle.peel.specs.Log.{coded, codes, second-group, number-in, log, accepts, faults, numbered, judged, ended, follows, replay-of, replay, stepped-back, by-check, replay-outcome}
 use Rattle.peel.proofs.Dozen.{printed, ten}
 
 -- one group up to 127, then two

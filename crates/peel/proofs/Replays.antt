@@ -1,5 +1,5 @@
 -- What a replay answers is what plain logic tells, for every log, and the other way round. Assumes nothing.
-use mathlib.Core.Path.{_≡_, refl, sym, ap, ap₂, subst, subst₂, _∙_}
+use mathlib.Core.Path.{_≡_, refl, sym, ap, ap₂, subst, _∙_}
 use mathlib.Core.Logic.{_↔_}
 use mathlib.Core.Bool.{Bool, true, false, cond}
 use mathlib.Core.List.{List, [], _∷_, _++_, append-assoc, append-nil}
@@ -11,8 +11,8 @@ use lib.ListN.{length, getD, take, drop, length-append, drop-of-length-le}
 use lib.Seq.{take-suc, drop-cons}
 use borrow.Author.Tests.{ltb-true, ltb-false}
 use Rattle.laws.proofs.Test.{false-iff, eqb-iff}
-use Rattle.peel.specs.Log.{coded, codes, Number, formed, number-in, Replay, accepts, faults, numbered, judged, ended, follows, replay-of}
-use Rattle.peel.specs.LogRefusals.{Octets, BadNumber, cut-short, not-shortest, too-high, Begins, place, Peel, Told, all-peels, bad-count, bad-number, not-next, left-over}
+use Rattle.peel.specs.Log.{coded, codes, Number, number-in, Replay, faults, numbered, judged, ended, follows, replay-of}
+use Rattle.peel.specs.LogRefusals.{Octets, cut-short, not-shortest, too-high, Begins, place, Peel, Told, all-peels, bad-count, bad-number, not-next, left-over}
 use Rattle.peel.proofs.Coding.{Stands, is-cut, is-overlong, is-coded, read-stands, bad-refused, low-next, octets-after}
 
 codes-append : (ns ms : List ℕ) → codes (ns ++ ms) ≡ codes ns ++ codes ms
@@ -123,8 +123,9 @@ module _ (ts : List ℕ) where
         ∙ one-read m (m - suc j) t (drop (suc j) ts) at rest (low j c)
         ∙ ap (λ at. follows m (m - suc j) (drop (suc j) ts) at rest) (sym (place-more m j c))
 
-    here : {bytes : List ℕ} {m j : ℕ} {rest : List ℕ} → Begins ts bytes m j rest → replay-of ts bytes ≡ follows m (m - j) (drop j ts) (place ts m j) rest
-    here {m = m} {j} {rest} b = ap (replay-of ts) (b .reads) ∙ reads-on m j rest (b .low) (b .asked) (b .there)
+    -- with i numbers to come
+    here : {bytes : List ℕ} {m j : ℕ} {rest : List ℕ} (i : ℕ) → m - j ≡ i → Begins ts bytes m j rest → replay-of ts bytes ≡ follows m i (drop j ts) (place ts m j) rest
+    here {m = m} {j} {rest} i e b = ap (replay-of ts) (b .reads) ∙ reads-on m j rest (b .low) (b .asked) (b .there) ∙ ap (λ i. follows m i (drop j ts) (place ts m j) rest) e
 
     not-judged : (others : List ℕ → ℕ → List ℕ → Replay) (j t at : ℕ) (rest : List ℕ) → (Peel ts j t → ⊥) → judged others (drop j ts) at t rest ≡ faults 43 at
     unfolding judged
@@ -135,11 +136,15 @@ module _ (ts : List ℕ) where
 
     pub told-replay : (bytes : List ℕ) {x : Replay} → Told ts bytes x → replay-of ts bytes ≡ x
     unfolding follows ended replay-of
-    told-replay bytes (all-peels n b) = here b ∙ ap (λ i. follows n i (drop n ts) (place ts n n) []) (let z : n - n ≡ 0 = omega arith in z)
+    told-replay bytes (all-peels n b) = here 0 (omega arith) b
     told-replay bytes (bad-count number b) = bad-refused (λ m rest. follows m m ts (length (coded m)) rest) 0 bytes number b
-    told-replay bytes (bad-number m j number rest l b bad) = here b ∙ ap (λ i. follows m i (drop j ts) (place ts m j) rest) (let z : m - j ≡ suc (m - suc j) = omega arith in z) ∙ bad-refused _ (place ts m j) rest number bad
-    told-replay bytes (not-next m j t rest l b k f) = here b ∙ ap (λ i. follows m i (drop j ts) (place ts m j) (coded t ++ rest)) (let z : m - j ≡ suc (m - suc j) = omega arith in z) ∙ low-next (judged (follows m (m - suc j)) (drop j ts) (place ts m j)) (place ts m j) t rest k ∙ not-judged (follows m (m - suc j)) j t (place ts m j) rest f
-    told-replay bytes (left-over m c rest b) = here b ∙ ap (λ i. follows m i (drop m ts) (place ts m m) (c ∷ rest)) (let z : m - m ≡ 0 = omega arith in z)
+    told-replay bytes (bad-number m j number rest l b bad) =
+        here (suc (m - suc j)) (omega arith) b ∙ bad-refused (judged (follows m (m - suc j)) (drop j ts) (place ts m j)) (place ts m j) rest number bad
+    told-replay bytes (not-next m j t rest l b k f) =
+        here (suc (m - suc j)) (omega arith) b
+        ∙ low-next (judged (follows m (m - suc j)) (drop j ts) (place ts m j)) (place ts m j) t rest k
+        ∙ not-judged (follows m (m - suc j)) j t (place ts m j) rest f
+    told-replay bytes (left-over m c rest b) = here 0 (omega arith) b
 
     pub replay-iff : (bytes : List ℕ) → Octets bytes → (x : Replay) → (replay-of ts bytes ≡ x) ↔ Told ts bytes x
     replay-iff bytes h x = ((λ e. subst (Told ts bytes) e (replay-told bytes h)), told-replay bytes)

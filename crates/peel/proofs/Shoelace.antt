@@ -12,9 +12,9 @@ use lib.IntN.{ℤ, pos, natAbs, _+ℤ_, +ℤ-idl}
 use lib.Signed.{_<ℤ_}
 use Rattle.laws.proofs.Solve.{Ex, v, k as number, _:+_, _:-_, _:*_, solve}
 use Rattle.sheet.specs.Plane.{Point, turn}
-use Rattle.sheet.specs.Office.{Office, points, triangles, point, tail, area}
+use Rattle.sheet.specs.Office.{Office, triangles, point, tail, area}
 use Rattle.sheet.specs.Acceptable.{Acceptable}
-use Rattle.sheet.proofs.Sign.{Pos}
+use Rattle.sheet.proofs.Sign.{Pos, opp}
 use Rattle.sheet.proofs.Total.{total, total-same}
 use Rattle.sheet.proofs.Swap.{pos-sum, total-front}
 use Rattle.sheet.proofs.Tiling.{area-pos}
@@ -27,6 +27,9 @@ use Rattle.rim.proofs.Reached.{Sound}
 use Rattle.peel.specs.Shoelace.{lace, laces, shoelace, ring-lace}
 use Rattle.peel.proofs.RingSum.{ring-sum}
 
+lace-back : (a b : Point) → lace a b ≡ opp (lace b a)
+lace-back a b = solve (v 0 :* v 3 :- v 2 :* v 1) (number (pos 0) :- (v 2 :* v 1 :- v 0 :* v 3)) (pos (a .x) ∷ pos (a .y) ∷ pos (b .x) ∷ pos (b .y) ∷ []) tt
+
 -- ---- along a row
 module _ (o : Office) where
   abbrev F : ℕ → ℕ → ℤ
@@ -35,7 +38,9 @@ module _ (o : Office) where
   laces-total : (p : ℕ) (ps : List ℕ) (q : ℕ) → laces (point o p) (map (point o) ps) (point o q) ≡ total (λ i. F (getD (p ∷ ps) i q) (getD (p ∷ ps) (suc i) q)) (suc (length ps))
   unfolding laces total
   laces-total p [] q = sym (+ℤ-idl (F p q))
-  laces-total p (r ∷ rs) q = ap (λ z. F p r +ℤ z) (laces-total r rs q) ∙ sym (total-front (λ i. F (getD (p ∷ r ∷ rs) i q) (getD (p ∷ r ∷ rs) (suc i) q)) (suc (length rs)))
+  laces-total p (r ∷ rs) q =
+      ap (λ z. F p r +ℤ z) (laces-total r rs q)
+      ∙ sym (total-front (λ i. F (getD (p ∷ r ∷ rs) i q) (getD (p ∷ r ∷ rs) (suc i) q)) (suc (length rs)))
 
   other-default : (row : List ℕ) (i d e : ℕ) → i < length row → getD row i d ≡ getD row i e
   other-default [] i d e l = absurd (omega arith)
@@ -46,7 +51,10 @@ module _ (o : Office) where
   wraps : (p : ℕ) (ps : List ℕ) (i : ℕ) → i ≤ suc (length ps) → getD (p ∷ ps) i p ≡ getD (p ∷ ps) (i % suc (length ps)) 0
   wraps p ps i l = elim (decLt i (suc (length ps))) [
     | yes b ↦ other-default (p ∷ ps) i p 0 b ∙ ap (λ j. getD (p ∷ ps) j 0) (sym (mod-eq-of-lt b))
-    | no f ↦ (let e : i ≡ suc (length ps) = omega arith in rw e (List·getD-eq-default ps p {n = length ps} (omega arith) ∙ ap (λ j. getD (p ∷ ps) j 0) (sym (mod-self (suc (length ps))))))
+    | no f ↦ (
+        let e : i ≡ suc (length ps) = omega arith in
+        rw e (List·getD-eq-default ps p {n = length ps} (omega arith) ∙ ap (λ j. getD (p ∷ ps) j 0) (sym (mod-self (suc (length ps)))))
+        )
   ]
 
   pub lace-total : (row : List ℕ) → ring-lace o row ≡ total (λ i. F (getD row (i % length row) 0) (getD row ((i + 1) % length row) 0)) (length row)
@@ -86,7 +94,7 @@ module _ {o : Office} {n : ℕ} {k : List ℕ} (a : Acceptable o) (h : Sound o n
   doubled-laced =
       pos-sum _ (triangles o)
       ∙ total-same _ _ (triangles o) held
-      ∙ sym (ring-sum a h (F o) (λ p q. solve (v 0 :* v 3 :- v 2 :* v 1) (number (pos 0) :- (v 2 :* v 1 :- v 0 :* v 3)) (pos (point o p .x) ∷ pos (point o p .y) ∷ pos (point o q .x) ∷ pos (point o q .y) ∷ []) tt))
+      ∙ sym (ring-sum a h (F o) (λ p q. lace-back (point o p) (point o q)))
       ∙ sym (lace-total o (ring o k))
 
   -- a kept triangle has some
