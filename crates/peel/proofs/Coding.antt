@@ -1,6 +1,6 @@
 -- The coding of one number below 2 ^ 14 reads back, both ways: what is coded is read, and what is read was coded; and so what is wrong with bytes
 -- where no number is read. Assumes nothing.
-use mathlib.Core.Path.{_≡_, refl, sym, ap, ap₂, _∙_}
+use mathlib.Core.Path.{_≡_, refl, sym, ap, ap₂, subst, _∙_}
 use mathlib.Core.Logic.{_↔_, _⊎_, inl, inr}
 use mathlib.Core.Bool.{Bool, true, false, cond, _||_}
 use mathlib.Core.List.{List, [], _∷_, _++_}
@@ -56,7 +56,7 @@ pub data Stands (bytes : List ℕ) : Number → Type 0 where
   is-coded : (n : ℕ) (rest : List ℕ) → n < 16384 → bytes ≡ coded n ++ rest → Stands bytes (formed n rest)
 
 -- ... is what is read
-pub stands-read : {bytes : List ℕ} {x : Number} → Stands bytes x → number-in bytes ≡ x
+stands-read : {bytes : List ℕ} {x : Number} → Stands bytes x → number-in bytes ≡ x
 unfolding number-in second-group
 stands-read (is-cut nothing-left) = refl
 stands-read (is-cut (one-group b l)) = rw (le-ltb b 128 l)
@@ -64,7 +64,7 @@ stands-read (is-overlong (two-groups b c rest l e)) = rw (le-ltb b 128 l, longer
 stands-read (is-coded n rest l e) = ap number-in e ∙ coded-read n rest l
 
 -- ... and the other way round
-pub read-stands : (bytes : List ℕ) → Octets bytes → Stands bytes (number-in bytes)
+read-stands : (bytes : List ℕ) → Octets bytes → Stands bytes (number-in bytes)
 unfolding number-in second-group coded
 read-stands [] h = is-cut nothing-left
 read-stands (b ∷ bytes) h = first (ltb b 128) refl bytes (h 0 (omega arith))
@@ -87,6 +87,25 @@ read-stands (b ∷ bytes) h = first (ltb b 128) refl bytes (h 0 (omega arith))
             let p : n % 128 + 128 ≡ b = omega arith in
             let q : n / 128 ≡ c = omega arith in
             is-coded n rest (omega arith) (rw (le-ltb n 128 (omega arith)) (ap₂ (λ (i j : ℕ). i ∷ j ∷ rest) (sym p) (sym q)))
+
+-- one law for both ways
+pub number-iff : (bytes : List ℕ) → Octets bytes → (x : Number) → (number-in bytes ≡ x) ↔ Stands bytes x
+number-iff bytes h x = ((λ e. subst (Stands bytes) e (read-stands bytes h)), stands-read)
+
+-- ---- a number of a log, 2,042 at most: what is so of its refusals and of what comes next is so of the answer
+pub by-number : (P : Replay → Type 0) (next : ℕ → List ℕ → Replay) (at : ℕ) (bytes : List ℕ) → Octets bytes → ((number : ℕ) → BadNumber bytes number → P (faults number at))
+    → ((n : ℕ) (rest : List ℕ) → n ≤ 2042 → bytes ≡ coded n ++ rest → P (next n rest)) → P (numbered next at (number-in bytes))
+unfolding numbered
+by-number P next at bytes h bad good = step (number-in bytes) (read-stands bytes h)
+  where
+    step : (x : Number) → Stands bytes x → P (numbered next at x)
+    step x (is-cut c) = bad 41 (cut-short c)
+    step x (is-overlong c) = bad 42 (not-shortest c)
+    step x (is-coded n rest k e) = high (ltb 2042 n) refl
+      where
+        high : (x : Bool) → ltb 2042 n ≡ x → P (cond x (faults 42 at) (next n rest))
+        high true f = bad 42 (too-high n rest (ltb-true 2042 n f) k e)
+        high false f = good n rest (ltb-false 2042 n f) e
 
 -- a number's fault is the refusal at its place
 pub bad-refused : (next : ℕ → List ℕ → Replay) (at : ℕ) (bytes : List ℕ) (number : ℕ) → BadNumber bytes number → numbered next at (number-in bytes) ≡ faults number at

@@ -6,14 +6,13 @@ use mathlib.Core.List.{List, [], _∷_, _++_, append-assoc, append-nil}
 use Prim.Native.Nat.{ℕ, zero, suc, _+_, _-_, _<_, _≤_}
 use native.Mathlib.Decide.{decLt}
 use native.Mathlib.Omega.{arith}
-use lib.Dec.{eqb, ltb}
+use lib.Dec.{eqb}
 use lib.ListN.{length, getD, take, drop, length-append, drop-of-length-le}
 use lib.Seq.{take-suc, drop-cons}
-use borrow.Author.Tests.{ltb-true, ltb-false}
 use Rattle.laws.proofs.Test.{false-iff, eqb-iff}
-use Rattle.peel.specs.Log.{coded, codes, Number, number-in, Replay, faults, numbered, judged, ended, follows, replay-of}
-use Rattle.peel.specs.LogRefusals.{Octets, cut-short, not-shortest, too-high, Begins, place, Peel, Told, all-peels, bad-count, bad-number, not-next, left-over}
-use Rattle.peel.proofs.Coding.{Stands, is-cut, is-overlong, is-coded, read-stands, bad-refused, low-next, octets-after}
+use Rattle.peel.specs.Log.{coded, codes, number-in, Replay, faults, numbered, judged, ended, follows, replay-of}
+use Rattle.peel.specs.LogRefusals.{Octets, Begins, place, Peel, Told, all-peels, bad-count, bad-number, not-next, left-over}
+use Rattle.peel.proofs.Coding.{by-number, bad-refused, low-next, octets-after}
 
 codes-append : (ns ms : List ℕ) → codes (ns ++ ms) ≡ codes ns ++ codes ms
 unfolding codes
@@ -46,8 +45,9 @@ module _ (ts : List ℕ) where
     one-told : (others : List ℕ → ℕ → List ℕ → Replay) (m j : ℕ) (rest : List ℕ) → j < m → Begins ts bytes m j rest → Octets rest
         → ((after : List ℕ) → Begins ts bytes m (suc j) after → Octets after → Told ts bytes (others (drop (suc j) ts) (place ts m (suc j)) after))
         → Told ts bytes (numbered (judged others (drop j ts) (place ts m j)) (place ts m j) (number-in rest))
-    unfolding numbered judged
-    one-told others m j rest l b h ih = step (number-in rest) (read-stands rest h)
+    unfolding judged
+    one-told others m j rest l b h ih =
+        by-number (Told ts bytes) (judged others (drop j ts) (place ts m j)) (place ts m j) rest h (λ number c. bad-number m j number rest l b c) (λ n after low e. next n after low e (decLt j (length ts)))
       where
         next : (n : ℕ) (after : List ℕ) → n ≤ 2042 → rest ≡ coded n ++ after → Dec (j < length ts) → Told ts bytes (judged others (drop j ts) (place ts m j) n after)
         next n after low e (no f) =
@@ -64,15 +64,6 @@ module _ (ts : List ℕ) where
                 (ih after (begins-more (subst (Begins ts bytes m j) w b) l k) (octets-after (coded n) after (subst Octets e h)))
             same false z = not-next m j n after l (subst (Begins ts bytes m j) e b) low (λ p. false-iff .0 z (eqb-iff .1 (sym (p .1))))
 
-        step : (x : Number) → Stands rest x → Told ts bytes (numbered (judged others (drop j ts) (place ts m j)) (place ts m j) x)
-        step x (is-cut c) = bad-number m j 41 rest l b (cut-short c)
-        step x (is-overlong c) = bad-number m j 42 rest l b (not-shortest c)
-        step x (is-coded n after k e) = high (ltb 2042 n) refl
-          where
-            high : (x : Bool) → ltb 2042 n ≡ x → Told ts bytes (cond x (faults 42 (place ts m j)) (judged others (drop j ts) (place ts m j) n after))
-            high true f = bad-number m j 42 rest l b (too-high n after (ltb-true 2042 n f) k e)
-            high false f = next n after (ltb-false 2042 n f) e (decLt j (length ts))
-
     told-from : (i m j : ℕ) (rest : List ℕ) → j + i ≡ m → Begins ts bytes m j rest → Octets rest → Told ts bytes (follows m i (drop j ts) (place ts m j) rest)
     unfolding follows ended
     told-from zero m j rest e b h = end rest (let z : j ≡ m = omega arith in z) b
@@ -83,21 +74,12 @@ module _ (ts : List ℕ) where
     told-from (suc i) m j rest e b h = one-told (follows m i) m j rest (omega arith) b h (λ after c k. told-from i m (suc j) after (omega arith) c k)
 
     pub replay-told : Octets bytes → Told ts bytes (replay-of ts bytes)
-    unfolding replay-of numbered codes
-    replay-told h = step (number-in bytes) (read-stands bytes h)
-      where
-        step : (x : Number) → Stands bytes x → Told ts bytes (numbered (λ m rest. follows m m ts (length (coded m)) rest) 0 x)
-        step x (is-cut c) = bad-count 41 (cut-short c)
-        step x (is-overlong c) = bad-count 42 (not-shortest c)
-        step x (is-coded m rest k e) = high (ltb 2042 m) refl
-          where
-            high : (x : Bool) → ltb 2042 m ≡ x → Told ts bytes (cond x (faults 42 0) (follows m m ts (length (coded m)) rest))
-            high true f = bad-count 42 (too-high m rest (ltb-true 2042 m f) k e)
-            high false f =
-                let z : coded m ++ [] ≡ coded m = append-nil (coded m) in
-                subst (λ i. Told ts bytes (follows m m ts i rest)) (ap length z)
-                (told-from m m 0 rest (omega arith) (record { low = ltb-false 2042 m f; asked = omega arith; there = omega arith; reads = e ∙ ap (λ l. l ++ rest) (sym z) })
-                (octets-after (coded m) rest (subst Octets e h)))
+    unfolding replay-of codes
+    replay-told h = by-number (Told ts bytes) (λ m rest. follows m m ts (length (coded m)) rest) 0 bytes h bad-count (λ m rest l e.
+        let z : coded m ++ [] ≡ coded m = append-nil (coded m) in
+        subst (λ i. Told ts bytes (follows m m ts i rest)) (ap length z)
+        (told-from m m 0 rest (omega arith) (record { low = l; asked = omega arith; there = omega arith; reads = e ∙ ap (λ l. l ++ rest) (sym z) })
+        (octets-after (coded m) rest (subst Octets e h))))
 
   -- ---- and back
   module _ (low : (j : ℕ) → j < length ts → getD ts j 0 ≤ 2042) where
