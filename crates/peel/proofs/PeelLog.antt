@@ -8,11 +8,13 @@ use lib.ListN.{length, getD, take, length-take}
 use lib.Seq.{length-take-le}
 use Rattle.sheet.specs.Office.{Office}
 use Rattle.sheet.specs.Acceptable.{Acceptable}
-use Rattle.rim.specs.Peel.{whole, drawn}
+use Rattle.rim.specs.Peel.{whole, drawn, peeled}
 use Rattle.rim.specs.Reached.{Stripped}
+use Rattle.rim.proofs.Reached.{sound}
 use Rattle.peel.specs.History.{history, without}
 use Rattle.peel.specs.Log.{codes, log-of, log, accepts, faults, replay, marks-after}
 use Rattle.peel.specs.LogRefusals.{Octets, Told, all-peels}
+use Rattle.peel.proofs.DrawnOutline.{stripped-reached}
 use Rattle.peel.proofs.Coding.{octets-codes, codes-length}
 use Rattle.peel.proofs.Replays.{replay-iff, told-replay}
 use Rattle.peel.proofs.History.{drawn-without, history-front, history-leads, history-low, history-short}
@@ -83,3 +85,10 @@ module _ {o : Office} (a : Acceptable o) where
   -- the marks after n peels are those of n peels of best sides
   pub after-peels : (n : ℕ) → n ≤ length h → Stripped o 0 n (marks-after o n)
   after-peels n l = subst (λ m. Stripped o 0 m (marks-after o n)) (let z : 0 + length (take n h) ≡ n = (let e = length-take-le n h l in omega arith) in z) (history-leads a 0 n .strips)
+
+  -- so the tally counts n, and a log's count is the draw's tally
+  pub after-count : (n : ℕ) → n ≤ length h → peeled o (marks-after o n) ≡ n
+  after-count n l = sound o a (stripped-reached a 0 (after-peels n l)) .count
+
+  pub own-count : (limit : ℕ) → peeled o (drawn o limit) ≡ length (history o limit)
+  own-count limit = ap (peeled o) (sym (own-marks limit)) ∙ after-count (length (history o limit)) (own-fits limit)
