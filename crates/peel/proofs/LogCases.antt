@@ -1,9 +1,10 @@
 -- Logs and areas of two offices of the dozen: the printed office and case 4, whole logs, damaged logs, steps back, and the hull's area. Assumes nothing.
 use mathlib.Core.Path.{_≡_, refl}
 use mathlib.Core.Bool.{true}
-use mathlib.Core.List.{[], _∷_, map}
+use mathlib.Core.List.{List, [], _∷_, map}
+use Prim.Native.Nat.{ℕ}
 use lib.IntN.{pos}
-use Rattle.laws.specs.First.{first, atFirst, count, sum, walk, stepped, among, once}
+use Rattle.laws.specs.First.{first, atFirst, count as sides-count, sum, walk, stepped, among, once}
 use Rattle.sheet.specs.Plane.{turn, squared, circle}
 use Rattle.sheet.specs.Verdict.{verdict}
 use Rattle.rim.specs.Peel.{rim, on-rim, removable, before, better, best-from, best, turned, peels, whole, drawn, ring}
@@ -11,6 +12,8 @@ use Rattle.peel.specs.Shoelace.{laces, shoelace, ring-lace}
 use Rattle.peel.specs.History.{noted, history-from, history, areas, without}
 use Rattle.peel.specs.Outcome.{draws}
 use Rattle.peel.specs.Log.{coded, codes, second-group, number-in, log, accepts, faults, numbered, judged, ended, follows, replay-of, replay, stepped-back, by-check, replay-outcome}
+use Rattle.peel.specs.Answer.{count, refusal}
+use Rattle.peel.specs.LogAnswer.{AfterLog, written, logged, after-log}
 use Rattle.peel.proofs.Dozen.{printed, ten}
 
 -- one group up to 127, then two
@@ -55,10 +58,21 @@ pub ten-back : map (replay-outcome true ten (2 ∷ 7 ∷ 0 ∷ [])) (0 ∷ 1 ∷
     ∷ draws (1 ∷ 1 ∷ 1 ∷ 1 ∷ 1 ∷ 1 ∷ 1 ∷ 1 ∷ 1 ∷ 1 ∷ [])
     ∷ draws (1 ∷ 1 ∷ 1 ∷ 1 ∷ 1 ∷ 1 ∷ 1 ∷ 1 ∷ 1 ∷ 1 ∷ [])
     ∷ []
-unfolding first atFirst count sum walk stepped among once turn squared circle verdict rim on-rim removable before better best-from best noted history-from history without coded second-group number-in numbered judged ended follows replay-of stepped-back by-check replay-outcome
+unfolding first atFirst sides-count sum walk stepped among once turn squared circle verdict rim on-rim removable before better best-from best noted history-from history without coded second-group number-in numbered judged ended follows replay-of stepped-back by-check replay-outcome
 ten-back = refl
+
+-- case 4's log in a list of four, whose last place stays, and of two
+abbrev ten-written : List ℕ → AfterLog
+ten-written out = after-log (ten .xs) (ten .ys) (ten .corners) 0 out
+
+pub ten-writes : map ten-written ((9 ∷ 9 ∷ 9 ∷ 9 ∷ []) ∷ (9 ∷ 9 ∷ []) ∷ [])
+    ≡ record { answer = count 3; out = 2 ∷ 7 ∷ 0 ∷ 9 ∷ [] }
+    ∷ record { answer = refusal 45 0; out = 9 ∷ 9 ∷ [] }
+    ∷ []
+unfolding first atFirst sides-count sum walk stepped among once turn squared circle verdict rim on-rim removable before better best-from best noted history-from history coded codes written logged after-log
+ten-writes = refl
 
 -- case 4's hull, its outline at limit 0, and the triangles peeled: 560 is 430 and 130
 pub ten-areas : (ring-lace ten (ring ten (whole ten)) ≡ pos 560) × (ring-lace ten (ring ten (drawn ten 0)) ≡ pos 430) × (areas ten (history ten 0) ≡ 130)
-unfolding first count walk turn squared rim on-rim removable before better best-from best turned peels drawn ring laces shoelace noted history-from history areas
+unfolding first sides-count walk turn squared rim on-rim removable before better best-from best turned peels drawn ring laces shoelace noted history-from history areas
 ten-areas = (refl, refl, refl)
