@@ -1,0 +1,60 @@
+-- Document 02, 11/13: for each point the least limit at which it is not on the outline, and how many points are on it at each limit.
+-- Assumes nothing.
+use Prim.Native.Nat.{ℕ, zero, suc}
+use mathlib.Core.Bool.{Bool, cond, _||_}
+use mathlib.Core.List.{List, [], _∷_, map}
+use mathlib.Core.Option.{Option, none, some}
+use lib.Dec.{ltb, eqb}
+use lib.ListN.{length, getD}
+use Rattle.laws.specs.First.{first, table}
+use Rattle.laws.specs.Round.{rotated}
+use Rattle.sheet.specs.Office.{Office, points, triangles, apex}
+use Rattle.rim.specs.Peel.{on-rim, long, best, peel, whole, drawn, ring}
+use Rattle.peel.specs.List.{Entry, entries}
+
+-- the smaller of two numbers
+abbrev pub smaller : ℕ → ℕ → ℕ
+smaller a b = cond (ltb a b) a b
+
+-- the numbers of a list of which the test holds, in their order
+unfoldable pub keep : (ℕ → Bool) → List ℕ → List ℕ
+keep test [] = []
+keep test (p ∷ ps) = cond (test p) (p ∷ keep test ps) (keep test ps)
+
+module _ (o : Office) where
+  -- the index of a point that is not on the rim of marks k, where `shortest` is the least length peeled before: a peel that bares the point
+  -- gives it the least of all lengths so far; where nothing is left to peel, no limit brings it to the outline
+  unfoldable pub bared : (ℕ → List ℕ → ℕ) → ℕ → List ℕ → ℕ → Option ℕ → ℕ
+  bared others shortest k p none = 0
+  bared others shortest k p (some s) = cond (eqb p (apex o s)) (smaller (long o s) shortest) (others (smaller (long o s) shortest) (peel k s))
+
+  unfoldable pub index-from : ℕ → ℕ → List ℕ → ℕ → ℕ
+  index-from zero shortest k p = 0
+  index-from (suc n) shortest k p = bared (λ least j. index-from n least j p) shortest k p (best o k)
+
+  -- the points of the hull are on every outline
+  unfoldable pub index : ℕ → ℕ
+  index p = cond (on-rim o (whole o) p) 4294967295 (index-from (triangles o) 4294967295 (whole o) p)
+
+  -- the index list
+  abbrev pub indices : List ℕ
+  indices = table index (points o)
+
+  -- a pair for each entry: its least limit, and how many points are on its outline
+  unfoldable pub limits : List ℕ
+  limits = map (λ e. e .least) (entries o)
+
+  unfoldable pub counts : List ℕ
+  counts = map (λ e. length (e .outline .round)) (entries o)
+
+  -- by the index, point p is on the outline at the limit
+  abbrev pub shown : ℕ → ℕ → Bool
+  shown limit p = ltb limit (index p) || eqb (index p) 4294967295
+
+  -- where the lowest point on the outline at the limit stands in a ring
+  abbrev pub begin : ℕ → List ℕ → ℕ
+  begin limit row = first (λ i. eqb (getD row i 0) (first (shown limit) (points o))) (length row)
+
+  -- of the ring drawn at limit 0, the points on the outline at the limit, from the lowest on
+  unfoldable pub thinned : ℕ → List ℕ
+  thinned limit = keep (shown limit) (rotated (begin limit (ring o (drawn o 0))) (ring o (drawn o 0)))
