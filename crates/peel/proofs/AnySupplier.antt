@@ -17,9 +17,8 @@ use Rattle.sheet.proofs.Alone.{Reordered, alone}
 use Rattle.rim.specs.Peel.{drawn}
 use Rattle.rim.proofs.Reached.{sound}
 use Rattle.rim.proofs.Rings.{outlined}
-use Rattle.peel.specs.List.{Outline, Entry, outline, entries}
+use Rattle.peel.specs.List.{Outline, Entry, At, outline, entries}
 use Rattle.peel.specs.Renamed.{LowestFirst, Turned, Paired, ended, paired}
-use Rattle.peel.proofs.Falls.{At}
 use Rattle.peel.proofs.DrawEnds.{drawn-ends}
 use Rattle.peel.proofs.Entries.{entry-drawn}
 use Rattle.peel.proofs.MatchedRing.{ring-lowest}

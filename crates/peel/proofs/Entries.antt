@@ -11,12 +11,14 @@ use Rattle.laws.proofs.Order.{level}
 use Rattle.sheet.specs.Office.{Office, points}
 use Rattle.sheet.specs.Acceptable.{Acceptable}
 use Rattle.rim.specs.Peel.{peels, drawn, ring}
-use Rattle.peel.specs.List.{Entry, entries, outline}
+use Rattle.peel.specs.List.{Entry, At, entries, outline}
+use Rattle.peel.specs.LookUp.{place-of}
+use Rattle.peel.specs.Index.{limits}
 use Rattle.rim.specs.Reached.{Reached}
 use Rattle.rim.proofs.Reached.{sound}
 use Rattle.rim.proofs.Rings.{peels-fit, ring-tells}
 use Rattle.peel.proofs.DrawEnds.{drawn-ends}
-use Rattle.peel.proofs.Falls.{At, at-below, below-at, falls-at, falls-two, look-at, look-found}
+use Rattle.peel.proofs.Falls.{at-below, below-at, falls-at, falls-two, look-at, look-found}
 use Rattle.peel.proofs.EntriesFall.{peels-are, entries-fall}
 use Rattle.peel.proofs.EveryLimit.{looked-up}
 
@@ -37,6 +39,11 @@ module _ {o : Office} (a : Acceptable o) where
       let x = entry-drawn i e h in
       (drawn o (e .least), subst (λ m. Reached o m (drawn o (e .least))) (sym (ap (λ x. x .peels) x ∙ peels-are a r)) r, ap (λ x. x .round) x)
 
+  -- at a limit's place among the least limits stands the entry drawn there
+  pub placed : (limit : ℕ) → (e : Entry) × At (entries o) (place-of (limits o) limit) e × (e .least ≤ limit) × (e .outline ≡ outline o (drawn o limit))
+  unfolding limits
+  placed limit = look-found (entries o) limit (looked-up a limit)
+
   -- no ring stands twice
   pub stands-once : (i j : ℕ) (e d : Entry) → At (entries o) i e → At (entries o) j d → e .outline .round ≡ d .outline .round → i ≡ j
   stands-once i j e d h k q = level (λ l. rising i j e d l h k q) (λ l. rising j i d e l k h (sym q))
@@ -53,8 +60,8 @@ module _ {o : Office} (a : Acceptable o) where
   pub entry-least : (i : ℕ) (e : Entry) (limit : ℕ) → At (entries o) i e → ring o (drawn o limit) ≡ e .outline .round → e .least ≤ limit
   unfolding outline
   entry-least i e limit h q =
-      let (j, d, k, l, w) = look-found (entries o) limit (looked-up a limit) in
-      let z : j ≡ i = stands-once j i d e k h (ap (λ x. x .round) w ∙ q) in
+      let (d, k, l, w) = placed limit in
+      let z = stands-once _ i d e k h (ap (λ x. x .round) w ∙ q) in
       let same : d ≡ e = Option·some-injective _ _ (sym k ∙ ap (λ x. getElem? (entries o) x) z ∙ h) in
       subst (λ x. x .least ≤ limit) same l
 
@@ -72,7 +79,8 @@ module _ {o : Office} (a : Acceptable o) where
   -- the last entry is what a draw at limit 0 gives
   pub last-entry : (i : ℕ) × (e : Entry) × At (entries o) i e × (suc i ≡ length (entries o)) × (e .least ≡ 0)
   last-entry =
-      let (i, e, h, l, _) = look-found (entries o) 0 (looked-up a 0) in
+      let i = place-of (limits o) 0 in
+      let (e, h, l, _) = placed 0 in
       let b = below-at (entries o) i h in
       (i, e, h, level (later i e h l) (λ m. omega arith), omega arith)
     where

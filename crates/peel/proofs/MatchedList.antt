@@ -12,12 +12,11 @@ use Rattle.sheet.proofs.Matched.{Matched, named, moved}
 use Rattle.sheet.specs.Acceptable.{Acceptable}
 use Rattle.sheet.proofs.MatchedAccept.{accept}
 use Rattle.rim.specs.Peel.{removable, best, long, peel, whole, drawn}
-use Rattle.peel.specs.List.{Entry, outline, entry, listed, entries-from, entries}
+use Rattle.peel.specs.List.{Entry, At, outline, entry, listed, entries-from, entries}
 use Rattle.peel.specs.Renamed.{Renamed, Paired, ended, paired}
 use Rattle.rim.specs.Reached.{Reached, begun, more}
 use Rattle.rim.proofs.Reached.{sound}
 use Rattle.rim.proofs.TopSide.{Top, best-top}
-use Rattle.peel.proofs.Falls.{At}
 use Rattle.peel.proofs.DrawEnds.{drawn-ends}
 use Rattle.peel.proofs.MatchedMarks.{Carried, whole-carried, long-moved, removable-moved, best-moved, peel-carried}
 use Rattle.peel.proofs.MatchedDraw.{same-triangles, drawn-carried, peeled-same, doubled-same}
