@@ -1,7 +1,9 @@
 -- Document 02, 11/13: for each point the least limit at which it is not on the outline, and how many points are on it at each limit.
 -- Assumes nothing.
-use Prim.Native.Nat.{ℕ, zero, suc}
-use mathlib.Core.Bool.{Bool, cond, _||_}
+use Prim.Native.Nat.{ℕ, zero, suc, _<_, _≤_}
+use mathlib.Core.Path.{_≡_}
+use mathlib.Core.Logic.{_↔_, _⊎_}
+use mathlib.Core.Bool.{Bool, true, false, cond, _||_}
 use mathlib.Core.List.{List, [], _∷_, map}
 use mathlib.Core.Option.{Option, none, some}
 use lib.Dec.{ltb, eqb}
@@ -58,3 +60,15 @@ module _ (o : Office) where
   -- of the ring drawn at limit 0, the points on the outline at the limit, from the lowest on
   unfoldable pub thinned : ℕ → List ℕ
   thinned limit = keep (shown limit) (rotated (begin limit (ring o (drawn o 0))) (ring o (drawn o 0)))
+
+-- what number i says of point p, at every whole-number limit
+pub record Indexed (o : Office) (p i : ℕ) : Type 0 where
+  -- the point is on the outline exactly where the number is above the limit, or is 4,294,967,295; this goes for greater limits too
+  pub agrees : (limit : ℕ) → (on-rim o (drawn o limit) p ≡ true) ↔ ((limit < i) ⊎ (i ≡ 4294967295))
+  -- 4,294,967,295 is that of the points of the hull, which are on the outline at every limit
+  pub hull : (i ≡ 4294967295) ↔ (on-rim o (whole o) p ≡ true)
+  pub always : (i ≡ 4294967295) ↔ ((limit : ℕ) → on-rim o (drawn o limit) p ≡ true)
+  -- 0 that of the points which no limit brings to it
+  pub never : (i ≡ 0) ↔ ((limit : ℕ) → on-rim o (drawn o limit) p ≡ false)
+  -- and any other is the least limit at which the point is not on it
+  pub least : (i ≡ 4294967295 → ⊥) → (on-rim o (drawn o i) p ≡ false) × ((limit : ℕ) → on-rim o (drawn o limit) p ≡ false → i ≤ limit)
