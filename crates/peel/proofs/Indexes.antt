@@ -32,7 +32,7 @@ or-false true = refl
 or-false false = refl
 
 module _ {o : Office} (a : Acceptable o) where
-  rim-grows : {n : ℕ} {k : List ℕ} (s p : ℕ) → Reached o n k → s < sides o → Top a k (sides o) (some s) → on-rim o (peel k s) p ≡ (on-rim o k p || eqb p (apex o s))
+  pub rim-grows : {n : ℕ} {k : List ℕ} (s p : ℕ) → Reached o n k → s < sides o → Top a k (sides o) (some s) → on-rim o (peel k s) p ≡ (on-rim o k p || eqb p (apex o s))
   rim-grows s p r l (_, e, _) = on-rim-after a (peelable o a (sound o a r) s l e) p
 
   module _ (p : ℕ) where

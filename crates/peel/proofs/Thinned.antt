@@ -1,41 +1,129 @@
 -- A ring is the ring of limit 0 without the points that are not on the outline, begun at the lowest that is. Assumes nothing.
-use mathlib.Core.Path.{_≡_, refl, sym, ap, ap₂, subst, _∙_}
+use mathlib.Core.Path.{_≡_, refl, sym, ap, subst, ap₂, _∙_}
 use mathlib.Core.Logic.{_⊎_, inl, inr}
 use mathlib.Core.Bool.{Bool, true, false, cond, _||_}
 use mathlib.Core.List.{List, [], _∷_, _++_}
-use Prim.Native.Nat.{ℕ, zero, suc, _<_, _≤_}
+use mathlib.Core.Option.{Option, none, some}
+use Prim.Native.Nat.{ℕ, zero, suc, _+_, _<_, _≤_}
+use native.Mathlib.Decide.{decLt}
 use native.Mathlib.Omega.{arith}
-use lib.ListN.{length}
-use Rattle.laws.proofs.Test.{false-iff}
-use Rattle.peel.specs.Index.{keep}
+use lib.Dec.{ltb, eqb}
+use lib.ListN.{length, getD}
+use borrow.Author.Tests.{ltb-true, ltb-false}
+use Rattle.laws.specs.First.{first, table}
+use Rattle.laws.specs.Round.{Round, rotated}
+use Rattle.laws.proofs.Test.{false-iff, eqb-iff, first-of}
+use Rattle.laws.proofs.Search.{first-hit}
+use Rattle.laws.proofs.Fill.{length-table, getD-table}
+use Rattle.laws.proofs.Front.{table-same}
+use Rattle.laws.proofs.Round.{early, apart-early, from-step, from-step-at}
+use Rattle.laws.proofs.OneRound.{one-round, one-length, rotated-table}
+use Rattle.sheet.specs.Office.{Office, points, sides, triangles, tail, head, apex, rims as hull-sides}
+use Rattle.sheet.specs.Acceptable.{Acceptable}
+use Rattle.rim.specs.Peel.{on-rim, long, best, peel, turned, peels, whole, drawn, ring}
+use Rattle.rim.specs.Reached.{Reached, begun, more}
+use Rattle.rim.proofs.Marks.{Way, rim-iff, on-rim-iff}
+use Rattle.rim.proofs.OnePeel.{Peelable, on, off}
+use Rattle.rim.proofs.Grow.{grown-round, grown-old, grown-new}
+use Rattle.rim.proofs.Reached.{Sound, sound, peelable}
+use Rattle.rim.proofs.Rings.{RingRound, outlined}
+use Rattle.rim.proofs.TopSide.{Top, best-top}
+use Rattle.peel.specs.Index.{keep, shown, begin, thinned}
+use Rattle.peel.proofs.DrawEnds.{drawn-ends}
+use Rattle.peel.proofs.Keep.{keep-same, keep-twice, keep-table, keep-head, keep-rotated, table-last}
+use Rattle.peel.proofs.Indexes.{rim-grows, on-outline, indexed}
 
--- ---- the laws of keeping
-keep-true : (test : ℕ → Bool) (p : ℕ) (ps : List ℕ) → test p ≡ true → keep test (p ∷ ps) ≡ p ∷ keep test ps
-unfolding keep
-keep-true test p ps e = rw e
+-- every round of the rim of marks k, without what is not on that of marks j, is a round of that of marks j
+abbrev Thins : Office → List ℕ → List ℕ → Type 0
+Thins o j k = (m : ℕ) (r : Round (Way o k) m) → (n : ℕ) × (q : Round (Way o j) n) × (table (q .at) n ≡ keep (on-rim o j) (table (r .at) m))
 
-keep-append : (test : ℕ → Bool) (ps qs : List ℕ) → keep test (ps ++ qs) ≡ keep test ps ++ keep test qs
-unfolding keep
-keep-append test [] qs = refl
-keep-append test (p ∷ ps) qs = step (test p) (keep-append test ps qs)
-  where
-    step : (b : Bool) → keep test (ps ++ qs) ≡ keep test ps ++ keep test qs → cond b (p ∷ keep test (ps ++ qs)) (keep test (ps ++ qs)) ≡ cond b (p ∷ keep test ps) (keep test ps) ++ keep test qs
-    step true ih = ap (λ (l : List ℕ). p ∷ l) ih
-    step false ih = ih
+module _ (o : Office) where
+  -- a round's points are on the rim
+  at-rim : (k : List ℕ) {m : ℕ} (r : Round (Way o k) m) (i : ℕ) → on-rim o k (r .at i) ≡ true
+  at-rim k r i = let (s, l, t, e, _) = r .goes i in on-rim-iff o k (r .at i) .1 (s, l, inl e, rim-iff o k s .0 t)
 
-keep-same : (f g : ℕ → Bool) (ps : List ℕ) → ((p : ℕ) → f p ≡ g p) → keep f ps ≡ keep g ps
-unfolding keep
-keep-same f g [] e = refl
-keep-same f g (p ∷ ps) e = ap₂ (λ (b : Bool) (l : List ℕ). cond b (p ∷ l) l) (e p) (keep-same f g ps e)
+  thin-none : (k : List ℕ) → Thins o k k
+  thin-none k m r = (m, r, sym (keep-table (on-rim o k) (r .at) m (at-rim k r)))
 
--- a narrower test alone
-keep-twice : (f g : ℕ → Bool) (ps : List ℕ) → ((p : ℕ) → f p ≡ true → g p ≡ true) → keep f (keep g ps) ≡ keep f ps
-unfolding keep
-keep-twice f g [] e = refl
-keep-twice f g (p ∷ ps) e = step (g p) refl (f p) refl (keep-twice f g ps e)
-  where
-    step : (b : Bool) → g p ≡ b → (c : Bool) → f p ≡ c → keep f (keep g ps) ≡ keep f ps → keep f (cond b (p ∷ keep g ps) (keep g ps)) ≡ cond c (p ∷ keep f ps) (keep f ps)
-    step true x true y ih = rw y (ap (λ (l : List ℕ). p ∷ l) ih)
-    step true x false y ih = rw y ih
-    step false x true y ih = absurd (false-iff .0 x (e p y))
-    step false x false y ih = ih
+  thin-more : (i j k : List ℕ) → ((p : ℕ) → on-rim o i p ≡ true → on-rim o j p ≡ true) → Thins o i j → Thins o j k → Thins o i k
+  thin-more i j k mono f g m r =
+      let (n, q, e) = g m r in
+      let (l, t, d) = f n q in
+      (l, t, d ∙ ap (keep (on-rim o i)) e ∙ keep-twice (on-rim o i) (on-rim o j) (table (r .at) m) mono)
+
+module _ {o : Office} (a : Acceptable o) where
+  -- one peel
+  thin-grown : {k : List ℕ} {s c : ℕ} (can : Peelable o k s) (R : Round (Way o k) c) → R .at 0 ≡ head o s → Thins o k (peel k s)
+  thin-grown {k} {s} {c} can R start m r =
+      let G = grown-round a can R start in
+      let (j, l, f) = one-round G r in
+      let q = from-step R j in (
+        c,
+        q,
+        sym (
+        ap (λ n. keep test (table (r .at) n)) (one-length G r)
+        ∙ ap (keep test) (table-same (r .at) (λ i. G .at (j + i)) (suc c) (λ i _. f i) ∙ sym (rotated-table (G .at) (suc c) j (omega arith) (G .back)) ∙ ap (rotated j) row)
+        ∙ keep-rotated test (apex o s) (false-iff .1 (λ e. off a can (on-rim-iff o k (apex o s) .0 e))) (table (R .at) c) j (let z = length-table (R .at) c in omega arith)
+        ∙ ap (keep test) (rotated-table (R .at) c j (omega arith) (R .back) ∙ table-same (λ i. R .at (j + i)) (q .at) c (λ i _. sym (from-step-at R j i)))
+        ∙ keep-table test (q .at) c (at-rim o k q)),
+      )
+    where
+      test : ℕ → Bool
+      test = on-rim o k
+
+      row : table (grown-round a can R start .at) (suc c) ≡ table (R .at) c ++ apex o s ∷ []
+      row =
+          table-last (grown-round a can R start .at) c
+          ∙ ap₂ (λ (l : List ℕ) (p : ℕ). l ++ p ∷ []) (table-same (grown-round a can R start .at) (R .at) c (λ i l. grown-old a can R start i l)) (grown-new a can R start)
+
+  module _ {n : ℕ} {k : List ℕ} (r : Reached o n k) (s : ℕ) (t : Top a k (sides o) (some s)) where
+    pub thin-peel : Thins o k (peel k s)
+    thin-peel =
+        let h = sound o a r .round in
+        let can = peelable o a (sound o a r) s (t .0) (t .1) in
+        let (j, x, y) = h .all (tail o s) (head o s) (s, t .0, rim-iff o k s .1 (on a can), refl, refl) in
+        thin-grown can (from-step h (j + 1)) (from-step-at h (j + 1) 0 ∙ ap (h .at) (omega arith) ∙ y)
+
+    -- a peel and then more
+    thin-then : (j : List ℕ) → Thins o (peel k s) j → Thins o k j
+    thin-then j = thin-more o k (peel k s) j (λ p e. rim-grows a s p r (t .0) t ∙ ap (λ b. b || eqb p (apex o s)) e) thin-peel
+
+  -- all that comes after marks k
+  turn-thins : (limit : ℕ) {n : ℕ} {k : List ℕ} (others : List ℕ → List ℕ) (b : Option ℕ) → Reached o n k → Top a k (sides o) b
+      → ((s : ℕ) → Reached o (suc n) (peel k s) → Thins o (peel k s) (others (peel k s))) → Thins o k (turned o others limit k b)
+  unfolding turned
+  turn-thins limit {n} {k} others none r t ih = thin-none o k
+  turn-thins limit {n} {k} others (some s) r (l, e, t) ih = step (ltb limit (long o s))
+    where
+      step : (b : Bool) → Thins o k (cond b (others (peel k s)) k)
+      step true = thin-then r s (l, e, t) (others (peel k s)) (ih s (more s r l e))
+      step false = thin-none o k
+
+  peels-thin : (limit fuel : ℕ) {n : ℕ} {k : List ℕ} → Reached o n k → Thins o k (peels o fuel limit k)
+  unfolding peels
+  peels-thin limit zero {n} {k} r = thin-none o k
+  peels-thin limit (suc fuel) {n} {k} r = turn-thins limit (peels o fuel limit) (best o k) r (best-top a k) (λ s x. peels-thin limit fuel x)
+
+  -- of two limits
+  module _ (small large : ℕ) (below : small ≤ large) where
+    turn-between : {n : ℕ} {k : List ℕ} (low high : List ℕ → List ℕ) (b : Option ℕ) → Reached o n k → Top a k (sides o) b
+        → ((s : ℕ) → Reached o (suc n) (peel k s) → Thins o (peel k s) (low (peel k s))) → ((s : ℕ) → Reached o (suc n) (peel k s) → Thins o (high (peel k s)) (low (peel k s)))
+        → Thins o (turned o high large k b) (turned o low small k b)
+    unfolding turned
+    turn-between {n} {k} low high none r t f ih = thin-none o k
+    turn-between {n} {k} low high (some s) r (l, e, t) f ih = step (ltb small (long o s)) (ltb large (long o s)) refl refl
+      where
+        step : (x y : Bool) → ltb small (long o s) ≡ x → ltb large (long o s) ≡ y → Thins o (cond y (high (peel k s)) k) (cond x (low (peel k s)) k)
+        step true true u v = ih s (more s r l e)
+        step true false u v = thin-then r s (l, e, t) (low (peel k s)) (f s (more s r l e))
+        step false true u v = absurd (let x = ltb-false small (long o s) u in let y = ltb-true large (long o s) v in omega arith)
+        step false false u v = thin-none o k
+
+    peels-between : (fuel : ℕ) {n : ℕ} {k : List ℕ} → Reached o n k → Thins o (peels o fuel large k) (peels o fuel small k)
+    unfolding peels
+    peels-between zero {n} {k} r = thin-none o k
+    peels-between (suc fuel) {n} {k} r = turn-between (peels o fuel small) (peels o fuel large) (best o k) r (best-top a k) (λ s x. peels-thin small fuel x) (λ s x. peels-between fuel x)
+
+    drawn-thins : Thins o (drawn o large) (drawn o small)
+    unfolding drawn
+    drawn-thins = peels-between (triangles o) begun
