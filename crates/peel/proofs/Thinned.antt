@@ -1,49 +1,40 @@
--- A ring is the ring of limit 0 without the points that are not on the outline, begun at the lowest that is. Assumes nothing.
-use mathlib.Core.Path.{_≡_, refl, sym, ap, subst, ap₂, _∙_}
-use mathlib.Core.Logic.{_⊎_, inl, inr}
+-- From a limit to a smaller one the outline only gains points: without these, every round of the rim there is one of the rim here. Assumes nothing.
+use mathlib.Core.Path.{_≡_, refl, sym, ap, ap₂, _∙_}
 use mathlib.Core.Bool.{Bool, true, false, cond, _||_}
 use mathlib.Core.List.{List, [], _∷_, _++_}
 use mathlib.Core.Option.{Option, none, some}
 use Prim.Native.Nat.{ℕ, zero, suc, _+_, _<_, _≤_}
-use native.Mathlib.Decide.{decLt}
 use native.Mathlib.Omega.{arith}
 use lib.Dec.{ltb, eqb}
-use lib.ListN.{length, getD}
 use borrow.Author.Tests.{ltb-true, ltb-false}
-use Rattle.laws.specs.First.{first, table}
+use Rattle.laws.specs.First.{table}
 use Rattle.laws.specs.Round.{Round, rotated}
-use Rattle.laws.proofs.Test.{false-iff, eqb-iff, first-of}
-use Rattle.laws.proofs.Search.{first-hit}
-use Rattle.laws.proofs.Fill.{length-table, getD-table}
+use Rattle.laws.proofs.Test.{false-iff}
+use Rattle.laws.proofs.Fill.{length-table}
 use Rattle.laws.proofs.Front.{table-same}
-use Rattle.laws.proofs.Round.{early, apart-early, from-step, from-step-at}
+use Rattle.laws.proofs.Round.{from-step, from-step-at}
 use Rattle.laws.proofs.OneRound.{one-round, one-length, rotated-table}
-use Rattle.sheet.specs.Office.{Office, points, sides, triangles, tail, head, apex, rims as hull-sides}
+use Rattle.sheet.specs.Office.{Office, sides, triangles, tail, head, apex}
 use Rattle.sheet.specs.Acceptable.{Acceptable}
-use Rattle.rim.specs.Peel.{on-rim, long, best, peel, turned, peels, whole, drawn, ring}
+use Rattle.rim.specs.Peel.{on-rim, long, best, peel, turned, peels, drawn}
 use Rattle.rim.specs.Reached.{Reached, begun, more}
 use Rattle.rim.proofs.Marks.{Way, rim-iff, on-rim-iff}
 use Rattle.rim.proofs.OnePeel.{Peelable, on, off}
 use Rattle.rim.proofs.Grow.{grown-round, grown-old, grown-new}
-use Rattle.rim.proofs.Reached.{Sound, sound, peelable}
-use Rattle.rim.proofs.Rings.{RingRound, outlined}
+use Rattle.rim.proofs.Reached.{sound, peelable}
 use Rattle.rim.proofs.TopSide.{Top, best-top}
-use Rattle.peel.specs.Index.{keep, shown, begin, thinned}
-use Rattle.peel.proofs.DrawEnds.{drawn-ends}
-use Rattle.peel.proofs.Keep.{keep-same, keep-twice, keep-table, keep-head, keep-rotated, table-last}
-use Rattle.peel.proofs.Indexes.{rim-grows, on-outline, indexed}
+use Rattle.peel.specs.Index.{keep}
+use Rattle.peel.proofs.Keep.{keep-twice, keep-table, keep-rotated, table-last}
+use Rattle.peel.proofs.Indexes.{rim-grows}
+use Rattle.peel.proofs.RoundPoints.{at-rim}
 
 -- every round of the rim of marks k, without what is not on that of marks j, is a round of that of marks j
-abbrev Thins : Office → List ℕ → List ℕ → Type 0
+abbrev pub Thins : Office → List ℕ → List ℕ → Type 0
 Thins o j k = (m : ℕ) (r : Round (Way o k) m) → (n : ℕ) × (q : Round (Way o j) n) × (table (q .at) n ≡ keep (on-rim o j) (table (r .at) m))
 
 module _ (o : Office) where
-  -- a round's points are on the rim
-  at-rim : (k : List ℕ) {m : ℕ} (r : Round (Way o k) m) (i : ℕ) → on-rim o k (r .at i) ≡ true
-  at-rim k r i = let (s, l, t, e, _) = r .goes i in on-rim-iff o k (r .at i) .1 (s, l, inl e, rim-iff o k s .0 t)
-
   thin-none : (k : List ℕ) → Thins o k k
-  thin-none k m r = (m, r, sym (keep-table (on-rim o k) (r .at) m (at-rim k r)))
+  thin-none k m r = (m, r, sym (keep-table (on-rim o k) (r .at) m (at-rim o k r)))
 
   thin-more : (i j k : List ℕ) → ((p : ℕ) → on-rim o i p ≡ true → on-rim o j p ≡ true) → Thins o i j → Thins o j k → Thins o i k
   thin-more i j k mono f g m r =
@@ -124,6 +115,6 @@ module _ {o : Office} (a : Acceptable o) where
     peels-between zero {n} {k} r = thin-none o k
     peels-between (suc fuel) {n} {k} r = turn-between (peels o fuel small) (peels o fuel large) (best o k) r (best-top a k) (λ s x. peels-thin small fuel x) (λ s x. peels-between fuel x)
 
-    drawn-thins : Thins o (drawn o large) (drawn o small)
+    pub drawn-thins : Thins o (drawn o large) (drawn o small)
     unfolding drawn
     drawn-thins = peels-between (triangles o) begun

@@ -1,0 +1,99 @@
+-- Document 02, 11/13, of the rings: how many points are on the outline at a limit, and that its ring is the ring of limit 0 without the points
+-- that the index keeps off, from the lowest of the others on. Assumes nothing.
+use mathlib.Core.Path.{_≡_, refl, sym, ap, subst, _∙_}
+use mathlib.Core.Logic.{_⊎_, inl, inr}
+use mathlib.Core.Bool.{Bool, true, false}
+use mathlib.Core.List.{List}
+use Prim.Native.Nat.{ℕ, _+_, _<_, _≤_}
+use native.Mathlib.Omega.{arith}
+use lib.Dec.{eqb}
+use lib.ListN.{length, getD, length-map}
+use Rattle.laws.specs.First.{first, table, count}
+use Rattle.laws.specs.Round.{Round, rotated}
+use Rattle.laws.proofs.Test.{false-iff, eqb-iff, first-of}
+use Rattle.laws.proofs.Search.{first-hit}
+use Rattle.laws.proofs.Count.{count-same}
+use Rattle.laws.proofs.Fill.{length-table, getD-table}
+use Rattle.laws.proofs.Front.{table-same}
+use Rattle.laws.proofs.Round.{apart-early, from-step, from-step-at}
+use Rattle.laws.proofs.OneRound.{one-round, one-length, rotated-table}
+use Rattle.sheet.specs.Office.{Office, points, rims as hull-sides}
+use Rattle.sheet.specs.Acceptable.{Acceptable}
+use Rattle.rim.specs.Peel.{on-rim, drawn, ring}
+use Rattle.rim.proofs.Marks.{Way}
+use Rattle.rim.proofs.Reached.{Sound, sound}
+use Rattle.rim.proofs.Rings.{RingRound, outlined, ring-length}
+use Rattle.peel.specs.List.{Entry, entries, outline}
+use Rattle.peel.specs.LookUp.{place-of}
+use Rattle.peel.specs.Index.{keep, index, limits, counts, shown, begin, thinned}
+use Rattle.peel.proofs.DrawEnds.{drawn-ends}
+use Rattle.peel.proofs.Falls.{column-at}
+use Rattle.peel.proofs.Entries.{placed}
+use Rattle.peel.proofs.Keep.{keep-same, keep-head}
+use Rattle.peel.proofs.Indexes.{on-outline, indexed}
+use Rattle.peel.proofs.RoundPoints.{at-rim, rim-at, at-point, rim-count}
+use Rattle.peel.proofs.Thinned.{drawn-thins}
+
+module _ {o : Office} (a : Acceptable o) where
+  -- the points on the outline are those of the ring
+  pub ring-count : (limit : ℕ) → count (on-rim o (drawn o limit)) (points o) ≡ length (ring o (drawn o limit))
+  ring-count limit = let (n, _, r, _) = drawn-ends a limit in let h = sound o a r in rim-count o (drawn o limit) (h .round) a ∙ sym (ring-length a h)
+
+  -- and the pair looked up tells how many
+  pub pair-count : (limit : ℕ) → getD (counts o) (place-of (limits o) limit) 0 ≡ count (on-rim o (drawn o limit)) (points o)
+  unfolding counts outline
+  pair-count limit = let (e, h, _, x) = placed a limit in column-at (λ e. length (e .outline .round)) (entries o) _ h ∙ ap (λ x. length (x .round)) x ∙ sym (ring-count limit)
+
+  -- a point on the outline is on it at each smaller limit
+  pub stays-on : (small large p : ℕ) → small ≤ large → on-rim o (drawn o large) p ≡ true → on-rim o (drawn o small) p ≡ true
+  stays-on small large p l e = indexed a p .agrees small .1 (step (indexed a p .agrees large .0 e))
+    where
+      step : (large < index o p) ⊎ (index o p ≡ 4294967295) → (small < index o p) ⊎ (index o p ≡ 4294967295)
+      step (inl h) = inl (omega arith)
+      step (inr h) = inr h
+
+  abbrev Rung : List ℕ → Type 0
+  Rung k = (m : ℕ) × RingRound o k m
+
+  rung : (limit : ℕ) → Rung (drawn o limit)
+  rung limit = let (n, _, r, _) = drawn-ends a limit in (hull-sides o + n, outlined a (sound o a r))
+
+  module _ (limit : ℕ) {m c : ℕ} (here : RingRound o (drawn o limit) m) (last : RingRound o (drawn o 0) c) where
+    -- the lowest point on the outline, by the index
+    lowest : first (shown o limit) (points o) ≡ here .round .at 0
+    lowest = first-hit (shown o limit) (points o) (here .round .at 0) (at-point o (drawn o limit) (here .round) a 0)
+        (λ p l. false-iff .1 (λ e. let z = here .lowest p (on-outline a p limit ∙ e) in omega arith)) (sym (on-outline a (here .round .at 0) limit) ∙ here .begins)
+
+    -- it stands in the ring of limit 0
+    found : (begin o limit (ring o (drawn o 0)) < c) × (last .round .at (begin o limit (ring o (drawn o 0))) ≡ here .round .at 0)
+    found =
+        let row = ring o (drawn o 0) in
+        let size : length row ≡ c = ap length (last .reads) ∙ length-table (last .round .at) c in
+        let read : (i : ℕ) → i < c → getD row i 0 ≡ last .round .at i = λ i l. ap (λ (l : List ℕ). getD l i 0) (last .reads) ∙ getD-table (last .round .at) c i l in
+        let (i, l, e) = rim-at o (drawn o 0) (last .round) (here .round .at 0) (stays-on 0 limit (here .round .at 0) (omega arith) (here .begins)) in
+        let (b, t) = first-of (λ i. eqb (getD row i 0) (first (shown o limit) (points o))) (length row) i (omega arith) (eqb-iff .1 (read i l ∙ e ∙ sym lowest)) in
+        let d : begin o limit row < c = omega arith in
+        (d, sym (read (begin o limit row) d) ∙ eqb-iff .0 t ∙ lowest)
+
+    thin : ring o (drawn o limit) ≡ thinned o limit
+    unfolding thinned
+    thin =
+        let (b, e) = found in
+        let i = begin o limit (ring o (drawn o 0)) in
+        let r = from-step (last .round) i in
+        let test = on-rim o (drawn o limit) in
+        let (n, q, f) = drawn-thins a 0 limit (omega arith) c r in
+        let start : r .at 0 ≡ here .round .at 0 = from-step-at (last .round) i 0 ∙ ap (last .round .at) (omega arith) ∙ e in
+        let begins : q .at 0 ≡ here .round .at 0 =
+            sym (getD-table (q .at) n 0 (q .long)) ∙ ap (λ (l : List ℕ). getD l 0 0) f ∙ keep-head test (r .at) c (r .long) (subst (λ p. test p ≡ true) (sym start) (here .begins)) ∙ start in
+        let (j, l, w) = one-round (here .round) q in
+        let zero : j ≡ 0 = apart-early (here .round) j 0 l (here .round .long) (ap (here .round .at) (omega arith) ∙ sym (w 0) ∙ begins) in
+        here .reads
+        ∙ ap (table (here .round .at)) (sym (one-length (here .round) q))
+        ∙ table-same (here .round .at) (q .at) n (λ x _. ap (here .round .at) (omega arith) ∙ sym (w x))
+        ∙ f
+        ∙ ap (keep test) (table-same (r .at) (λ x. last .round .at (i + x)) c (λ x _. from-step-at (last .round) i x) ∙ sym (rotated-table (last .round .at) c i (omega arith) (last .round .back)) ∙ ap (rotated i) (sym (last .reads)))
+        ∙ keep-same test (shown o limit) (rotated i (ring o (drawn o 0))) (λ p. on-outline a p limit)
+
+  pub ring-thinned : (limit : ℕ) → ring o (drawn o limit) ≡ thinned o limit
+  ring-thinned limit = let (m, here) = rung limit in let (c, last) = rung 0 in thin limit here last
