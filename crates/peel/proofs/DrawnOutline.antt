@@ -15,34 +15,9 @@ use Rattle.rim.proofs.Marks.{Way, Held}
 use Rattle.rim.proofs.Reached.{Sound, sound}
 use Rattle.rim.proofs.Rings.{outlined, ring-length}
 use Rattle.rim.proofs.TopSide.{Top, best-top}
+use Rattle.peel.specs.DrawnAt.{DrawnAt}
 use Rattle.peel.proofs.DrawEnds.{Done, drawn-ends}
-use Rattle.peel.proofs.Simple.{Simple, outline-simple, reads, side, once}
-
--- the point at step i of going round a row for ever
-abbrev pub step : List ℕ → ℕ → ℕ
-step row i = getD row (i % length row) 0
-
--- a draw at the limit leaves marks k after n peels
-pub record DrawnAt (o : Office) (limit n : ℕ) (k : List ℕ) : Type 0 where
-  -- the best side was peeled n times, each longer than the limit
-  pub by-best : Stripped o limit n k
-  -- no removable side is strictly longer than the limit
-  pub nothing-left : (s : ℕ) → s < sides o → removable o k s ≡ true → long o s ≤ limit
-  -- every point is a corner of a kept triangle
-  pub held : (p : ℕ) → p < points o → Held o k p
-  -- the tally's count, and the ring's length: the hull's and one more for each peel
-  pub count : peeled o k ≡ n
-  pub long-ring : length (ring o k) ≡ hull-sides o + n
-  -- the ring starts at the lowest point on the rim
-  pub on-rim-first : on-rim o k (step (ring o k) 0) ≡ true
-  pub lowest-first : (p : ℕ) → on-rim o k p ≡ true → step (ring o k) 0 ≤ p
-  -- it is closed: each step is along a rim side, the one after the last too; and each rim side is a step of it
-  pub along-rim : (i : ℕ) → Way o k (step (ring o k) i) (step (ring o k) (i + 1))
-  pub whole-rim : (s : ℕ) → s < sides o → rim o k s ≡ true → (i : ℕ) × (step (ring o k) i ≡ tail o s) × (step (ring o k) (i + 1) ≡ head o s)
-  -- it visits each of its points once
-  pub each-once : (i j : ℕ) → i < length (ring o k) → j < length (ring o k) → step (ring o k) i ≡ step (ring o k) j → i ≡ j
-  -- and it is a simple polygon
-  pub simple : Simple o (ring o k)
+use Rattle.peel.proofs.Simple.{outline-simple, reads, side, once}
 
 module _ {o : Office} (a : Acceptable o) (limit : ℕ) where
   -- reached by best sides

@@ -3,9 +3,9 @@ use mathlib.Core.Path.{_≡_, refl, sym, ap, ap₂, _∙_}
 use mathlib.Core.Bool.{Bool, true, false, cond}
 use mathlib.Core.List.{List, [], _∷_, _++_}
 use Prim.Native.Nat.{ℕ, zero, suc, _<_, _≤_}
-use native.Mathlib.Nat.{le-of-suc-le-suc, not-suc-le-zero}
-use native.Mathlib.Omega.{arith}
+use native.Mathlib.Nat.{not-suc-le-zero}
 use lib.ListN.{length, getD, take, drop}
+use lib.Seq.{take-append-le, drop-append-le}
 use Rattle.laws.specs.First.{table}
 use Rattle.laws.specs.Round.{rotated}
 use Rattle.laws.proofs.Test.{false-iff}
@@ -56,20 +56,10 @@ module _ (test : ℕ → Bool) (c : ℕ) (off : test c ≡ false) where
   end [] = rw off
   end (p ∷ ps) = ap (λ (l : List ℕ). cond (test p) (p ∷ l) l) (end ps)
 
-  later : (ps : List ℕ) (j : ℕ) → j ≤ length ps → keep test (drop j (ps ++ c ∷ [])) ≡ keep test (drop j ps)
-  later ps zero l = end ps
-  later [] (suc j) l = absurd (not-suc-le-zero l)
-  later (p ∷ ps) (suc j) l = later ps j (le-of-suc-le-suc l)
-
-  sooner : (ps : List ℕ) (j : ℕ) → j ≤ length ps → take j (ps ++ c ∷ []) ≡ take j ps
-  sooner ps zero l = refl
-  sooner [] (suc j) l = absurd (not-suc-le-zero l)
-  sooner (p ∷ ps) (suc j) l = ap (λ (l : List ℕ). p ∷ l) (sooner ps j (le-of-suc-le-suc l))
-
   pub keep-rotated : (ps : List ℕ) (j : ℕ) → j ≤ length ps → keep test (rotated j (ps ++ c ∷ [])) ≡ keep test (rotated j ps)
   keep-rotated ps j l =
       keep-append test (drop j (ps ++ c ∷ [])) (take j (ps ++ c ∷ []))
-      ∙ ap₂ _++_ (later ps j l) (ap (keep test) (sooner ps j l))
+      ∙ ap₂ _++_ (ap (keep test) (drop-append-le j ps (c ∷ []) l) ∙ end (drop j ps)) (ap (keep test) (take-append-le j ps (c ∷ []) l))
       ∙ sym (keep-append test (drop j ps) (take j ps))
 
 pub table-last : (at : ℕ → ℕ) (m : ℕ) → table at (suc m) ≡ table at m ++ at m ∷ []

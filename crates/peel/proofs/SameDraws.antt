@@ -24,7 +24,7 @@ use Rattle.peel.specs.Renamed.{Turned}
 use Rattle.peel.specs.declared.Drawn.{Drawn}
 use Rattle.rim.proofs.Reached.{sound}
 use Rattle.peel.proofs.DrawEnds.{drawn-ends}
-use Rattle.peel.proofs.Outcomes.{draw-given, draw-refused}
+use Rattle.peel.proofs.Answered.{draw-lent, draw-accepted}
 use Rattle.peel.proofs.UsedPart.{ring-sides, used-front}
 use Rattle.peel.proofs.TwoExports.{SameOutlines, renumbering}
 
@@ -85,29 +85,6 @@ module _ {o n : Office} (re : Renumbered o n) (a : Acceptable o) (limit : ℕ) w
     rings = subst (Turned (re .number .to) (used g m)) (sym (ap (used g′) (e ∙ sym same-rims) ∙ ring-used again limit y))
         (subst (λ k. Turned (re .number .to) k (ring n (drawn n limit))) (sym (ap (used g) e ∙ ring-used a limit x)) same-ring);
   }
-
--- a draw that answers a tally
-module _ {xs ys corners : List ℕ} {limit : ℕ} {kept rim round : List ℕ} {r : Drawn} {k i g : List ℕ} (d : DrawPromise xs ys corners limit kept rim round r k i g) where
-  abbrev o : Office
-  o = office xs ys corners
-
-  draw-lent : {h : ℕ} → verdict (draw-room o kept rim round) o ≡ accepted h
-      → (draw-answer r ≡ tally (peeled o (drawn o limit)) (doubled o (drawn o limit)) (rims o (drawn o limit))) × Lent o (drawn o limit) kept rim round k i g
-  unfolding drawing
-  draw-lent v =
-      let e = draw-given xs ys corners limit kept rim round v in
-      (d .answers ∙ ap (λ x. x .answer) e, record { marks = d .kept-is ∙ ap (λ x. x .kept) e; on = d .rim-is ∙ ap (λ x. x .rim) e; goes = d .ring-is ∙ ap (λ x. x .ring) e })
-
-  draw-accepted : {p a m : ℕ} → draw-answer r ≡ tally p a m → (h : ℕ) × (verdict (draw-room o kept rim round) o ≡ accepted h)
-  unfolding drawing
-  draw-accepted {p} {a} {m} e = by (verdict (draw-room o kept rim round) o) refl
-    where
-      by : (v : Verdict) → verdict (draw-room o kept rim round) o ≡ v → (h : ℕ) × (verdict (draw-room o kept rim round) o ≡ accepted h)
-      by (accepted h) v = (h, v)
-      by (refused c q) v =
-          let f = draw-refused xs ys corners limit kept rim round v in
-          let t = sym (ap (λ x. x .answer) f) ∙ sym (d .answers) ∙ e in
-          absurd (let z : _≡_ {A = ℕ} 0 1 = cc in omega arith)
 
 -- where one export's draw answers a tally, the other's does, if its lent lists have room: the same tally, and lists that are the same but for the new numbers
 pub draw-same : {xs ys corners xs′ ys′ corners′ : List ℕ} (re : Renumbered (office xs ys corners) (office xs′ ys′ corners′)) {limit : ℕ}

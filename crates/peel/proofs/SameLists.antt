@@ -15,37 +15,9 @@ use Rattle.peel.specs.List.{Entry, entries, outline}
 use Rattle.peel.specs.Answer.{count, list-answer, drawing, listing, list-room, column, ListPromise}
 use Rattle.peel.specs.Code.{Lent}
 use Rattle.peel.specs.declared.Listed.{Listed}
-use Rattle.peel.proofs.Outcomes.{list-given, list-refused}
+use Rattle.peel.proofs.Answered.{list-lent, list-accepted}
 use Rattle.peel.proofs.MatchedList.{paired-length, same-column}
 use Rattle.peel.proofs.SameDraws.{SameLent, same, again, lent-same}
-
--- a list that answers a count
-module _ {xs ys corners kept rim round least peels area : List ℕ} {r : Listed} {k i g l p a : List ℕ} (d : ListPromise xs ys corners kept rim round least peels area r k i g l p a) where
-  abbrev u : Office
-  u = office xs ys corners
-
-  list-lent : {h : ℕ} → verdict (list-room u kept rim round least peels area) u ≡ accepted h → (list-answer r ≡ count (length (entries u))) × Lent u (drawn u 0) kept rim round k i g
-      × (l ≡ column u (λ e. e .least) least) × (p ≡ column u (λ e. e .outline .peels) peels) × (a ≡ column u (λ e. e .outline .area) area)
-  unfolding listing drawing
-  list-lent v =
-      let e = list-given xs ys corners kept rim round least peels area v in (
-        d .answers ∙ ap (λ x. x .answer) e,
-        record { marks = d .kept-is ∙ ap (λ x. x .kept) e; on = d .rim-is ∙ ap (λ x. x .rim) e; goes = d .ring-is ∙ ap (λ x. x .ring) e },
-        d .least-is ∙ ap (λ x. x .least) e,
-        d .peeled-is ∙ ap (λ x. x .peeled) e,
-        d .area-is ∙ ap (λ x. x .area) e,
-      )
-
-  list-accepted : {c : ℕ} → list-answer r ≡ count c → (h : ℕ) × (verdict (list-room u kept rim round least peels area) u ≡ accepted h)
-  unfolding listing
-  list-accepted {c} e = by (verdict (list-room u kept rim round least peels area) u) refl
-    where
-      by : (v : Verdict) → verdict (list-room u kept rim round least peels area) u ≡ v → (h : ℕ) × (verdict (list-room u kept rim round least peels area) u ≡ accepted h)
-      by (accepted h) v = (h, v)
-      by (refused n q) v =
-          let f = list-refused xs ys corners kept rim round least peels area v in
-          let t = sym (ap (λ x. x .answer) f) ∙ sym (d .answers) ∙ e in
-          absurd (let z : _≡_ {A = ℕ} 0 1 = cc in omega arith)
 
 -- the entries' numbers stand in front
 column-front : (o : Office) (number : Entry → ℕ) (list : List ℕ) {l : List ℕ} {c : ℕ} → c ≡ length (entries o) → l ≡ column o number list → take c l ≡ map number (entries o)

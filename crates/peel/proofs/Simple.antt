@@ -24,24 +24,8 @@ use Rattle.rim.specs.Peel.{rim, ring, drawn}
 use Rattle.rim.proofs.Marks.{Way, rim-iff}
 use Rattle.rim.proofs.Reached.{Sound, sound}
 use Rattle.rim.proofs.Rings.{outlined, ring-length}
+use Rattle.peel.specs.Simple.{Simple}
 use Rattle.peel.proofs.DrawEnds.{drawn-ends}
-
-module _ (o : Office) (row : List ℕ) where
-  -- the point at step i, going round
-  abbrev pub corner : ℕ → Point
-  corner i = point o (getD row (i % length row) 0)
-
-  pub record Simple : Type 0 where
-    pub three : 3 ≤ length row
-    -- no two of its points are equal
-    pub once : (i j : ℕ) → i < length row → j < length row → corner i .x ≡ corner j .x → corner i .y ≡ corner j .y → i ≡ j
-    -- no two of its sides cross
-    pub crossing : (i j : ℕ) → Opposite (turn (corner i) (corner (i + 1)) (corner j)) (turn (corner i) (corner (i + 1)) (corner (j + 1)))
-        → Opposite (turn (corner j) (corner (j + 1)) (corner i)) (turn (corner j) (corner (j + 1)) (corner (i + 1))) → ⊥
-    -- none of its points lies within one of its sides
-    pub touching : (i j : ℕ) → Between (corner i) (corner (i + 1)) (corner j) → ⊥
-    -- two of its sides with an inner point in common, the point (X / m, Y / m), are one
-    pub apart : (i j : ℕ) → i < length row → j < length row → (m X Y : ℤ) → Pos m → Inner m X Y (corner i) (corner (i + 1)) → Inner m X Y (corner j) (corner (j + 1)) → i ≡ j
 
 module _ {o : Office} {n : ℕ} {k : List ℕ} (a : Acceptable o) (h : Sound o n k) where
   abbrev m : ℕ
