@@ -9,7 +9,7 @@ use Rattle.sheet.specs.Office.{Office, office}
 use Rattle.sheet.specs.Verdict.{Verdict, accepted, refused, verdict}
 use Rattle.rim.specs.Peel.{drawn, rims, peeled, doubled}
 use Rattle.peel.specs.List.{entries}
-use Rattle.peel.specs.Answer.{Answer, tally, count, refusal, draw-answer, list-answer, drawing, listing, draw-room, list-room, column, DrawPromise, ListPromise}
+use Rattle.peel.specs.Answer.{tally, count, refusal, draw-answer, list-answer, drawing, listing, draw-room, list-room, column, DrawPromise, ListPromise}
 use Rattle.peel.specs.Code.{Lent}
 use Rattle.peel.specs.declared.Drawn.{Drawn}
 use Rattle.peel.specs.declared.Listed.{Listed}

@@ -3,15 +3,13 @@ use mathlib.Core.Path.{_≡_, refl, sym, subst, _∙_}
 use mathlib.Core.Bool.{Bool, true, false, cond}
 use mathlib.Core.List.{List}
 use mathlib.Core.Option.{Option, none, some}
-use Prim.Native.Nat.{ℕ, zero, suc, _+_, _%_, _<_, _≤_}
+use Prim.Native.Nat.{ℕ, zero, suc, _+_, _≤_}
 use lib.Dec.{ltb}
-use lib.ListN.{length, getD}
 use borrow.Author.Tests.{ltb-true}
-use Rattle.sheet.specs.Office.{Office, points, sides, triangles, tail, head, rims as hull-sides}
+use Rattle.sheet.specs.Office.{Office, sides, triangles, tail, head}
 use Rattle.sheet.specs.Acceptable.{Acceptable}
-use Rattle.rim.specs.Peel.{rim, on-rim, removable, long, best, peel, turned, peels, drawn, ring, peeled}
+use Rattle.rim.specs.Peel.{on-rim, long, best, peel, turned, peels, drawn}
 use Rattle.rim.specs.Reached.{Reached, begun, more, Stripped, none-yet, one-more}
-use Rattle.rim.proofs.Marks.{Way, Held}
 use Rattle.rim.proofs.Reached.{Sound, sound}
 use Rattle.rim.proofs.Rings.{outlined, ring-length}
 use Rattle.rim.proofs.TopSide.{Top, best-top}

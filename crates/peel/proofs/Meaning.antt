@@ -1,8 +1,8 @@
 -- Whatever satisfies the promises of draw and list leaves in memory what documents 01's demands 2 and 3 ask; a refusal leaves all as lent. Assumes nothing.
-use mathlib.Core.Path.{_≡_, refl, sym, ap, ap₂, subst, subst₂, _∙_}
+use mathlib.Core.Path.{_≡_, sym, ap, ap₂, subst, subst₂, _∙_}
 use mathlib.Core.Bool.{true}
 use mathlib.Core.List.{List, _++_, map}
-use Prim.Native.Nat.{ℕ, _+_, _-_, _<_, _≤_}
+use Prim.Native.Nat.{ℕ, _+_, _-_, _≤_}
 use native.Mathlib.Omega.{arith}
 use lib.ListN.{length, getD, take, drop, length-append, length-drop, length-map, List·getD-append}
 use lib.Seq.{take-at, getD-append-add, getD-drop}
@@ -11,7 +11,6 @@ use Rattle.laws.proofs.Test.{plain}
 use Rattle.laws.proofs.Fill.{length-table}
 use Rattle.sheet.specs.Office.{Office, office, points, triangles}
 use Rattle.sheet.specs.Acceptable.{Acceptable}
-use Rattle.sheet.specs.Verdict.{accepted, verdict}
 use Rattle.sheet.proofs.Accepted.{accepted-lent}
 use Rattle.rim.specs.Peel.{mark, on-rim, drawn, rims, ring, peeled, doubled}
 use Rattle.rim.proofs.Reached.{sound}

@@ -12,13 +12,12 @@ use Rattle.laws.proofs.Fill.{length-table, getD-table}
 use Rattle.laws.proofs.OneRound.{length-rotated}
 use Rattle.sheet.specs.Office.{Office, office, points, triangles, rims as hull-sides}
 use Rattle.sheet.specs.Acceptable.{Acceptable}
-use Rattle.sheet.specs.Verdict.{Verdict, accepted, refused, verdict}
 use Rattle.sheet.specs.Renumbered.{Renumbered}
 use Rattle.sheet.proofs.Accepted.{accepted-lent}
 use Rattle.sheet.proofs.SameVerdict.{acceptable-same}
 use Rattle.rim.specs.Peel.{mark, on-rim, drawn, rims, ring, peeled, doubled}
 use Rattle.peel.specs.List.{outline}
-use Rattle.peel.specs.Answer.{tally, draw-answer, drawing, draw-room, used, DrawPromise}
+use Rattle.peel.specs.Answer.{tally, draw-answer, draw-room, used, DrawPromise}
 use Rattle.peel.specs.Code.{Lent}
 use Rattle.peel.specs.Renamed.{Turned}
 use Rattle.peel.specs.declared.Drawn.{Drawn}

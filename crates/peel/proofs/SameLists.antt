@@ -3,17 +3,14 @@ use mathlib.Core.Path.{_≡_, refl, sym, ap, _∙_}
 use mathlib.Core.Bool.{true}
 use mathlib.Core.List.{List, map}
 use Prim.Native.Nat.{ℕ}
-use native.Mathlib.Omega.{arith}
 use lib.ListN.{length, take, drop, length-map}
 use lib.Seq.{take-at}
 use Rattle.sheet.specs.Office.{Office, office, rims as hull-sides}
-use Rattle.sheet.specs.Verdict.{Verdict, accepted, refused, verdict}
 use Rattle.sheet.specs.Renumbered.{Renumbered}
 use Rattle.sheet.proofs.Accepted.{accepted-lent}
-use Rattle.rim.specs.Peel.{drawn, rims, ring, peeled}
+use Rattle.rim.specs.Peel.{drawn, rims}
 use Rattle.peel.specs.List.{Entry, entries, outline}
-use Rattle.peel.specs.Answer.{count, list-answer, drawing, listing, list-room, column, ListPromise}
-use Rattle.peel.specs.Code.{Lent}
+use Rattle.peel.specs.Answer.{count, list-answer, list-room, column, ListPromise}
 use Rattle.peel.specs.declared.Listed.{Listed}
 use Rattle.peel.proofs.Answered.{list-lent, list-accepted}
 use Rattle.peel.proofs.MatchedList.{paired-length, same-column}

@@ -1,15 +1,14 @@
 -- Two limits give the same outline exactly where they look up the same place. Assumes nothing.
 use mathlib.Core.Path.{_≡_, sym, ap, subst₂, _∙_}
 use mathlib.Core.Logic.{_↔_}
-use mathlib.Core.List.{List, map}
 use mathlib.Core.Option.{Option·some-injective}
 use Prim.Native.Nat.{ℕ, _<_}
 use native.Mathlib.Omega.{arith}
-use lib.ListN.{length, getElem?, length-map}
+use lib.ListN.{getElem?, length-map}
 use Rattle.sheet.specs.Office.{Office}
 use Rattle.sheet.specs.Acceptable.{Acceptable}
 use Rattle.rim.specs.Peel.{drawn, ring}
-use Rattle.peel.specs.List.{Entry, At, entries, outline}
+use Rattle.peel.specs.List.{Entry, entries, outline}
 use Rattle.peel.specs.LookUp.{place-of, Falling}
 use Rattle.peel.specs.Index.{limits}
 use Rattle.peel.proofs.Falls.{at-below, column-at}

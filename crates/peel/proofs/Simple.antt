@@ -3,23 +3,20 @@ use mathlib.Core.Path.{_≡_, sym, ap, subst, subst₂, _∙_}
 use mathlib.Core.Logic.{_⊎_, inl, inr}
 use mathlib.Core.Bool.{true}
 use mathlib.Core.List.{List}
-use Prim.Native.Nat.{ℕ, _+_, _%_, _<_, _≤_}
+use Prim.Native.Nat.{ℕ, _+_, _%_, _<_}
 use native.Mathlib.Nat.{mod-lt}
 use native.Mathlib.Omega.{arith}
 use lib.ListN.{length, getD}
-use lib.IntN.{ℤ}
 use Rattle.laws.proofs.Fill.{getD-table}
 use Rattle.laws.proofs.Round.{wound-here, apart-early}
 use Rattle.laws.specs.Round.{Round}
-use Rattle.sheet.specs.Plane.{Point, turn}
-use Rattle.sheet.specs.Office.{Office, points, sides, point, tail, rims as hull-sides}
-use Rattle.sheet.proofs.Sign.{Pos}
+use Rattle.sheet.specs.Office.{Office, points, sides, tail, rims as hull-sides}
 use Rattle.sheet.specs.Acceptable.{Reverse, Acceptable}
 use Rattle.sheet.proofs.Hull.{hull-three}
 use Rattle.sheet.proofs.Tiled.{tiling}
-use Rattle.sheet.proofs.Between.{Between, nothing-within}
-use Rattle.sheet.proofs.Meet.{Opposite, no-crossing}
-use Rattle.sheet.proofs.Inner.{Inner, shared}
+use Rattle.sheet.proofs.Between.{nothing-within}
+use Rattle.sheet.proofs.Meet.{no-crossing}
+use Rattle.sheet.proofs.Inner.{shared}
 use Rattle.rim.specs.Peel.{rim, ring, drawn}
 use Rattle.rim.proofs.Marks.{Way, rim-iff}
 use Rattle.rim.proofs.Reached.{Sound, sound}

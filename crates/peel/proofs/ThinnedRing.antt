@@ -1,18 +1,17 @@
 -- Document 02, 11/13, of the rings: how many points are on the outline at a limit, and that its ring is the ring of limit 0 without the points
 -- that the index keeps off, from the lowest of the others on. Assumes nothing.
-use mathlib.Core.Path.{_≡_, refl, sym, ap, subst, _∙_}
+use mathlib.Core.Path.{_≡_, sym, ap, subst, _∙_}
 use mathlib.Core.Logic.{_⊎_, inl, inr}
-use mathlib.Core.Bool.{Bool, true, false}
+use mathlib.Core.Bool.{true}
 use mathlib.Core.List.{List}
 use Prim.Native.Nat.{ℕ, _+_, _<_, _≤_}
 use native.Mathlib.Omega.{arith}
 use lib.Dec.{eqb}
-use lib.ListN.{length, getD, length-map}
+use lib.ListN.{length, getD}
 use Rattle.laws.specs.First.{first, table, count}
-use Rattle.laws.specs.Round.{Round, rotated}
+use Rattle.laws.specs.Round.{rotated}
 use Rattle.laws.proofs.Test.{false-iff, eqb-iff, first-of}
 use Rattle.laws.proofs.Search.{first-hit}
-use Rattle.laws.proofs.Count.{count-same}
 use Rattle.laws.proofs.Fill.{length-table, getD-table}
 use Rattle.laws.proofs.Front.{table-same}
 use Rattle.laws.proofs.Round.{apart-early, from-step, from-step-at}
@@ -20,10 +19,9 @@ use Rattle.laws.proofs.OneRound.{one-round, one-length, rotated-table}
 use Rattle.sheet.specs.Office.{Office, points, rims as hull-sides}
 use Rattle.sheet.specs.Acceptable.{Acceptable}
 use Rattle.rim.specs.Peel.{on-rim, drawn, ring}
-use Rattle.rim.proofs.Marks.{Way}
-use Rattle.rim.proofs.Reached.{Sound, sound}
+use Rattle.rim.proofs.Reached.{sound}
 use Rattle.rim.proofs.Rings.{RingRound, outlined, ring-length}
-use Rattle.peel.specs.List.{Entry, entries, outline}
+use Rattle.peel.specs.List.{entries, outline}
 use Rattle.peel.specs.LookUp.{place-of}
 use Rattle.peel.specs.Index.{keep, index, limits, counts, shown, begin, thinned}
 use Rattle.peel.proofs.DrawEnds.{drawn-ends}
@@ -31,7 +29,7 @@ use Rattle.peel.proofs.Falls.{column-at}
 use Rattle.peel.proofs.Entries.{placed}
 use Rattle.peel.proofs.Keep.{keep-same, keep-head}
 use Rattle.peel.proofs.Indexes.{on-outline, indexed}
-use Rattle.peel.proofs.RoundPoints.{at-rim, rim-at, at-point, rim-count}
+use Rattle.peel.proofs.RoundPoints.{rim-at, at-point, rim-count}
 use Rattle.peel.proofs.Thinned.{drawn-thins}
 
 module _ {o : Office} (a : Acceptable o) where

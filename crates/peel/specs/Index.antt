@@ -12,7 +12,7 @@ use Rattle.laws.specs.First.{first, table}
 use Rattle.laws.specs.Round.{rotated}
 use Rattle.sheet.specs.Office.{Office, points, triangles, apex}
 use Rattle.rim.specs.Peel.{on-rim, long, best, peel, whole, drawn, ring}
-use Rattle.peel.specs.List.{Entry, entries}
+use Rattle.peel.specs.List.{entries}
 
 -- the smaller of two numbers
 abbrev pub smaller : ℕ → ℕ → ℕ
