@@ -18,10 +18,10 @@ use Rattle.peel.proofs.Outcomes.{draw-given, draw-refused, list-given, 
 tally-not : {p a m n q : ℕ} → tally p a m ≡ refusal n q → ⊥
 tally-not e = let z : _≡_ {A = ℕ} 0 1 = cc in omega arith
 
-count-not : {c n q : ℕ} → count c ≡ refusal n q → ⊥
+pub count-not : {c n q : ℕ} → count c ≡ refusal n q → ⊥
 count-not e = let z : _≡_ {A = ℕ} 0 1 = cc in omega arith
 
-same-refused : {c p n q : ℕ} → refusal c p ≡ refusal n q → refused c p ≡ refused n q
+pub same-refused : {c p n q : ℕ} → refusal c p ≡ refusal n q → refused c p ≡ refused n q
 same-refused e = cc
 
 module _ {xs ys corners : List ℕ} {limit : ℕ} {kept rim round : List ℕ} {r : Drawn} {k i g : List ℕ} (d : DrawPromise xs ys corners limit kept rim round r k i g) where

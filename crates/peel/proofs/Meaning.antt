@@ -29,7 +29,7 @@ use Rattle.peel.proofs.Entries.{entries-fit}
 use Rattle.peel.proofs.UsedPart.{ring-sides}
 use Rattle.peel.proofs.Answered.{draw-lent, draw-accepted, list-lent, list-accepted}
 
-over : (written lent now : List ℕ) (n : ℕ) → length written ≡ n → n ≤ length lent → now ≡ written ++ drop n lent → Over written lent now
+pub over : (written lent now : List ℕ) (n : ℕ) → length written ≡ n → n ≤ length lent → now ≡ written ++ drop n lent → Over written lent now
 over written lent now n e l f = record {
   long = ap length f ∙ length-append written (drop n lent) ∙ (let z = length-drop n lent in omega arith);
   front = λ i b. ap (λ (x : List ℕ). getD x i 0) f ∙ List·getD-append written (drop n lent) 0 i b;
