@@ -3,13 +3,17 @@
 use Prim.Native.Nat.{ℕ}
 use mathlib.Core.Path.{_≡_, refl}
 use mathlib.Core.List.{List, [], _∷_, map}
-use Rattle.laws.specs.First.{first, table, count, sum, walk}
-use Rattle.sheet.specs.Plane.{squared}
+use lib.ListN.{replicate}
+use Rattle.laws.specs.First.{first, atFirst, table, count, sum, walk, stepped, among, once}
+use Rattle.sheet.specs.Plane.{turn, squared, circle}
 use Rattle.sheet.specs.Office.{Office, office}
+use Rattle.sheet.specs.Verdict.{verdict}
 use Rattle.rim.specs.Peel.{rim, on-rim, removable, before, better, best-from, best, turned, peels, drawn, ring, peeled, doubled}
 use Rattle.peel.specs.List.{listed, entries-from, entries, outline}
 use Rattle.peel.specs.LookUp.{place-of, halved}
 use Rattle.peel.specs.Index.{keep, bared, index-from, index, indices, limits, counts, thinned}
+use Rattle.peel.specs.Answer.{count as pairs, refusal}
+use Rattle.peel.specs.IndexAnswer.{indexing, after-index}
 use Rattle.peel.proofs.Dozen.{printed, ten}
 
 -- the index, the pairs, the places of some limits, and the ring at each of them
@@ -71,3 +75,17 @@ low-index : of low (100 ∷ 0 ∷ []) ≡ record {
 }
 unfolding of place-of halved keep bared index-from index limits counts thinned first table count sum walk squared rim on-rim removable before better best-from best turned peels drawn ring peeled doubled outline listed entries-from entries
 low-index = refl
+
+-- lent lists of sevens: a number per point and two pairs are written, the last place of each list stays; and a count list too short
+lent : after-index (printed .xs) (printed .ys) (printed .corners) (replicate 6 7) (replicate 3 7) (replicate 3 7) ≡ record {
+  answer = pairs 2;
+  index = all ∷ all ∷ all ∷ all ∷ 100 ∷ 7 ∷ [];
+  limits = 100 ∷ 0 ∷ 7 ∷ [];
+  counts = 4 ∷ 5 ∷ 7 ∷ [];
+}
+unfolding after-index indexing verdict atFirst stepped among once turn circle bared index-from index limits counts first table count sum walk squared rim on-rim removable before better best-from best ring peeled doubled outline listed entries-from entries
+lent = refl
+
+no-room : after-index (printed .xs) (printed .ys) (printed .corners) (replicate 5 7) (replicate 3 7) (replicate 2 7) ≡ record { answer = refusal 4 0; index = replicate 5 7; limits = replicate 3 7; counts = replicate 2 7 }
+unfolding after-index indexing verdict
+no-room = refl

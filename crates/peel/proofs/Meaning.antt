@@ -1,5 +1,5 @@
 -- Whatever satisfies the promises of draw and list leaves in memory what documents 01's demands 2 and 3 ask; a refusal leaves all as lent. Assumes nothing.
-use mathlib.Core.Path.{_≡_, sym, ap, ap₂, subst, subst₂, _∙_}
+use mathlib.Core.Path.{_≡_, refl, sym, ap, ap₂, subst, subst₂, _∙_}
 use mathlib.Core.Bool.{true}
 use mathlib.Core.List.{List, _++_, map}
 use Prim.Native.Nat.{ℕ, _+_, _-_, _≤_}
@@ -120,3 +120,13 @@ list-means {xs} {ys} {corners} {kept} {rim} {round} {least} {peels} {area} {r} {
 
     column-over : {list now : List ℕ} → Acceptable o → (number : Entry → ℕ) → points o - 2 ≤ length list → now ≡ column o number list → Over (map number (entries o)) list now
     column-over {list} {now} a number l f = over (map number (entries o)) list now (length (entries o)) (length-map (entries o) number) (let h = entries-fit a in omega arith) f
+
+-- an acceptable office whose lent lists have room is not refused
+pub draw-answers : {xs ys corners : List ℕ} {limit : ℕ} {kept rim round : List ℕ} {r : Drawn} {kept′ rim′ round′ : List ℕ} → DrawPromise xs ys corners limit kept rim round r kept′ rim′ round′
+    → draw-room (office xs ys corners) kept rim round ≡ true → Acceptable (office xs ys corners) → (p : ℕ) × (a : ℕ) × (m : ℕ) × (draw-answer r ≡ tally p a m)
+draw-answers d room a = (_, _, _, draw-lent d (accepted-lent _ _ _ .1 (room, a, refl)) .0)
+
+pub list-answers : {xs ys corners kept rim round least peels area : List ℕ} {r : Listed} {kept′ rim′ round′ least′ peels′ area′ : List ℕ}
+    → ListPromise xs ys corners kept rim round least peels area r kept′ rim′ round′ least′ peels′ area′
+    → list-room (office xs ys corners) kept rim round least peels area ≡ true → Acceptable (office xs ys corners) → (c : ℕ) × (list-answer r ≡ count c)
+list-answers d room a = (_, list-lent d (accepted-lent _ _ _ .1 (room, a, refl)) .0)

@@ -3,7 +3,7 @@
 use mathlib.Core.Path.{_≡_, sym, ap, subst, _∙_}
 use mathlib.Core.Logic.{_⊎_, inl, inr}
 use mathlib.Core.Bool.{true}
-use mathlib.Core.List.{List}
+use mathlib.Core.List.{List, append-nil}
 use Prim.Native.Nat.{ℕ, _+_, _<_, _≤_}
 use native.Mathlib.Omega.{arith}
 use lib.Dec.{eqb}
@@ -21,12 +21,12 @@ use Rattle.sheet.specs.Acceptable.{Acceptable}
 use Rattle.rim.specs.Peel.{on-rim, drawn, ring}
 use Rattle.rim.proofs.Reached.{sound}
 use Rattle.rim.proofs.Rings.{RingRound, outlined, ring-length}
-use Rattle.peel.specs.List.{entries, outline}
+use Rattle.peel.specs.List.{Entry, At, entries, outline}
 use Rattle.peel.specs.LookUp.{place-of}
 use Rattle.peel.specs.Index.{keep, index, limits, counts, shown, begin, thinned}
 use Rattle.peel.proofs.DrawEnds.{drawn-ends}
 use Rattle.peel.proofs.Falls.{column-at}
-use Rattle.peel.proofs.Entries.{placed}
+use Rattle.peel.proofs.Entries.{entry-drawn, placed}
 use Rattle.peel.proofs.Keep.{keep-same, keep-head}
 use Rattle.peel.proofs.Indexes.{on-outline, indexed}
 use Rattle.peel.proofs.RoundPoints.{rim-at, at-point, rim-count}
@@ -62,16 +62,35 @@ module _ {o : Office} (a : Acceptable o) where
     lowest = first-hit (shown o limit) (points o) (here .round .at 0) (at-point o (drawn o limit) (here .round) a 0)
         (λ p l. false-iff .1 (λ e. let z = here .lowest p (on-outline a p limit ∙ e) in omega arith)) (sym (on-outline a (here .round .at 0) limit) ∙ here .begins)
 
+    size : length (ring o (drawn o 0)) ≡ c
+    size = ap length (last .reads) ∙ length-table (last .round .at) c
+
+    read : (i : ℕ) → i < c → getD (ring o (drawn o 0)) i 0 ≡ last .round .at i
+    read i l = ap (λ (l : List ℕ). getD l i 0) (last .reads) ∙ getD-table (last .round .at) c i l
+
+    at-zero : on-rim o (drawn o 0) (here .round .at 0) ≡ true
+    at-zero = stays-on 0 limit (here .round .at 0) (omega arith) (here .begins)
+
     -- it stands in the ring of limit 0
     found : (begin o limit (ring o (drawn o 0)) < c) × (last .round .at (begin o limit (ring o (drawn o 0))) ≡ here .round .at 0)
     found =
         let row = ring o (drawn o 0) in
-        let size : length row ≡ c = ap length (last .reads) ∙ length-table (last .round .at) c in
-        let read : (i : ℕ) → i < c → getD row i 0 ≡ last .round .at i = λ i l. ap (λ (l : List ℕ). getD l i 0) (last .reads) ∙ getD-table (last .round .at) c i l in
-        let (i, l, e) = rim-at o (drawn o 0) (last .round) (here .round .at 0) (stays-on 0 limit (here .round .at 0) (omega arith) (here .begins)) in
-        let (b, t) = first-of (λ i. eqb (getD row i 0) (first (shown o limit) (points o))) (length row) i (omega arith) (eqb-iff .1 (read i l ∙ e ∙ sym lowest)) in
+        let e = size in
+        let (i, l, f) = rim-at o (drawn o 0) (last .round) (here .round .at 0) at-zero in
+        let (b, t) = first-of (λ i. eqb (getD row i 0) (first (shown o limit) (points o))) (length row) i (omega arith) (eqb-iff .1 (read i l ∙ f ∙ sym lowest)) in
         let d : begin o limit row < c = omega arith in
         (d, sym (read (begin o limit row) d) ∙ eqb-iff .0 t ∙ lowest)
+
+    -- at its front, where the point there is on the outline
+    front : shown o limit (getD (ring o (drawn o 0)) 0 0) ≡ true → begin o limit (ring o (drawn o 0)) ≡ 0
+    front e =
+        let z = read 0 (last .round .long) in
+        let x = here .lowest (getD (ring o (drawn o 0)) 0 0) (on-outline a (getD (ring o (drawn o 0)) 0 0) limit ∙ e) in
+        let y = last .lowest (here .round .at 0) at-zero in
+        let w = lowest in
+        let f : getD (ring o (drawn o 0)) 0 0 ≡ first (shown o limit) (points o) = omega arith in
+        first-hit (λ i. eqb (getD (ring o (drawn o 0)) i 0) (first (shown o limit) (points o))) (length (ring o (drawn o 0))) 0
+        (let l = last .round .long in let q = size in omega arith) (λ i l. absurd (omega arith)) (eqb-iff .1 f)
 
     thin : ring o (drawn o limit) ≡ thinned o limit
     unfolding thinned
@@ -95,3 +114,16 @@ module _ {o : Office} (a : Acceptable o) where
 
   pub ring-thinned : (limit : ℕ) → ring o (drawn o limit) ≡ thinned o limit
   ring-thinned limit = let (m, here) = rung limit in let (c, last) = rung 0 in thin limit here last
+
+  -- so is that of an entry
+  pub entry-thinned : (i : ℕ) (e : Entry) → At (entries o) i e → e .outline .round ≡ thinned o (e .least)
+  unfolding outline
+  entry-thinned i e h = ap (λ x. x .round) (entry-drawn a i e h) ∙ ring-thinned (e .least)
+
+  -- where the first point of the ring of limit 0 is on the outline, as one of the hull always is, nothing has to be turned
+  pub ring-kept : (limit : ℕ) → shown o limit (getD (ring o (drawn o 0)) 0 0) ≡ true → ring o (drawn o limit) ≡ keep (shown o limit) (ring o (drawn o 0))
+  unfolding thinned
+  ring-kept limit e =
+      let (m, here) = rung limit in
+      let (c, last) = rung 0 in
+      ring-thinned limit ∙ ap (λ i. keep (shown o limit) (rotated i (ring o (drawn o 0)))) (front limit here last e) ∙ ap (keep (shown o limit)) (append-nil (ring o (drawn o 0)))
