@@ -89,6 +89,7 @@ draw-means {xs} {ys} {corners} {limit} {kept} {rim} {round} {r} {kept′} {rim�
       shows = subst (λ n. Shows o limit n kept rim round kept′ rim′ round′) (sym x) (shown acceptable limit l room);
       area-is = y ∙ ap (doubled o) (sym front);
       ring-is = ap (λ n. take n round′) z ∙ ring-front acceptable limit l ∙ ap (ring o) (sym front);
+      length-is = z ∙ sym (ring-sides o (drawn o limit)) ∙ ap (λ k. length (ring o k)) (sym front);
     }
   where
     o : Office

@@ -1,12 +1,11 @@
 -- From a limit to a smaller one the outline only gains points: without these, every round of the rim there is one of the rim here. Assumes nothing.
-use mathlib.Core.Path.{_≡_, refl, sym, ap, ap₂, _∙_}
+use mathlib.Core.Path.{_≡_, refl, sym, ap, ap₂, subst, _∙_}
 use mathlib.Core.Bool.{Bool, true, false, cond, _||_}
 use mathlib.Core.List.{List, [], _∷_, _++_}
 use mathlib.Core.Option.{Option, none, some}
-use Prim.Native.Nat.{ℕ, zero, suc, _+_, _≤_}
+use Prim.Native.Nat.{ℕ, zero, suc, _+_, _-_, _≤_}
 use native.Mathlib.Omega.{arith}
 use lib.Dec.{ltb, eqb}
-use borrow.Author.Tests.{ltb-true, ltb-false}
 use Rattle.laws.specs.First.{table}
 use Rattle.laws.specs.Round.{Round, rotated}
 use Rattle.laws.proofs.Test.{false-iff}
@@ -17,13 +16,14 @@ use Rattle.laws.proofs.OneRound.{one-round, one-length, rotated-table}
 use Rattle.sheet.specs.Office.{Office, sides, triangles, tail, head, apex}
 use Rattle.sheet.specs.Acceptable.{Acceptable}
 use Rattle.rim.specs.Peel.{on-rim, long, best, peel, turned, peels, drawn}
-use Rattle.rim.specs.Reached.{Reached, begun, more}
+use Rattle.rim.specs.Reached.{Reached, more}
 use Rattle.rim.proofs.Marks.{Way, rim-iff, on-rim-iff}
 use Rattle.rim.proofs.OnePeel.{Peelable, on, off}
 use Rattle.rim.proofs.Grow.{grown-round, grown-old, grown-new}
 use Rattle.rim.proofs.Reached.{sound, peelable}
 use Rattle.rim.proofs.TopSide.{Top, best-top}
 use Rattle.peel.specs.Index.{keep}
+use Rattle.peel.proofs.GoingOn.{going-on}
 use Rattle.peel.proofs.Keep.{keep-twice, keep-table, keep-rotated, table-last}
 use Rattle.peel.proofs.Indexes.{rim-grows}
 use Rattle.peel.proofs.RoundPoints.{at-rim}
@@ -52,11 +52,11 @@ module _ {o : Office} (a : Acceptable o) where
         c,
         q,
         sym (
-        ap (λ n. keep test (table (r .at) n)) (one-length G r)
-        ∙ ap (keep test) (table-same (r .at) (λ i. G .at (j + i)) (suc c) (λ i _. f i) ∙ sym (rotated-table (G .at) (suc c) j (omega arith) (G .back)) ∙ ap (rotated j) row)
-        ∙ keep-rotated test (apex o s) (false-iff .1 (λ e. off a can (on-rim-iff o k (apex o s) .0 e))) (table (R .at) c) j (let z = length-table (R .at) c in omega arith)
-        ∙ ap (keep test) (rotated-table (R .at) c j (omega arith) (R .back) ∙ table-same (λ i. R .at (j + i)) (q .at) c (λ i _. sym (from-step-at R j i)))
-        ∙ keep-table test (q .at) c (at-rim o k q)),
+            ap (λ n. keep test (table (r .at) n)) (one-length G r)
+            ∙ ap (keep test) (table-same (r .at) (λ i. G .at (j + i)) (suc c) (λ i _. f i) ∙ sym (rotated-table (G .at) (suc c) j (omega arith) (G .back)) ∙ ap (rotated j) row)
+            ∙ keep-rotated test (apex o s) (false-iff .1 (λ e. off a can (on-rim-iff o k (apex o s) .0 e))) (table (R .at) c) j (let z = length-table (R .at) c in omega arith)
+            ∙ ap (keep test) (rotated-table (R .at) c j (omega arith) (R .back) ∙ table-same (λ i. R .at (j + i)) (q .at) c (λ i _. sym (from-step-at R j i)))
+            ∙ keep-table test (q .at) c (at-rim o k q)),
       )
     where
       test : ℕ → Bool
@@ -95,26 +95,6 @@ module _ {o : Office} (a : Acceptable o) where
   peels-thin limit zero {n} {k} r = thin-none o k
   peels-thin limit (suc fuel) {n} {k} r = turn-thins limit (peels o fuel limit) (best o k) r (best-top a k) (λ s x. peels-thin limit fuel x)
 
-  -- of two limits
-  module _ (small large : ℕ) (below : small ≤ large) where
-    turn-between : {n : ℕ} {k : List ℕ} (low high : List ℕ → List ℕ) (b : Option ℕ) → Reached o n k → Top a k (sides o) b
-        → ((s : ℕ) → Reached o (suc n) (peel k s) → Thins o (peel k s) (low (peel k s))) → ((s : ℕ) → Reached o (suc n) (peel k s) → Thins o (high (peel k s)) (low (peel k s)))
-        → Thins o (turned o high large k b) (turned o low small k b)
-    unfolding turned
-    turn-between {n} {k} low high none r t f ih = thin-none o k
-    turn-between {n} {k} low high (some s) r (l, e, t) f ih = step (ltb small (long o s)) (ltb large (long o s)) refl refl
-      where
-        step : (x y : Bool) → ltb small (long o s) ≡ x → ltb large (long o s) ≡ y → Thins o (cond y (high (peel k s)) k) (cond x (low (peel k s)) k)
-        step true true u v = ih s (more s r l e)
-        step true false u v = thin-then r s (l, e, t) (low (peel k s)) (f s (more s r l e))
-        step false true u v = absurd (let x = ltb-false small (long o s) u in let y = ltb-true large (long o s) v in omega arith)
-        step false false u v = thin-none o k
-
-    peels-between : (fuel : ℕ) {n : ℕ} {k : List ℕ} → Reached o n k → Thins o (peels o fuel large k) (peels o fuel small k)
-    unfolding peels
-    peels-between zero {n} {k} r = thin-none o k
-    peels-between (suc fuel) {n} {k} r = turn-between (peels o fuel small) (peels o fuel large) (best o k) r (best-top a k) (λ s x. peels-thin small fuel x) (λ s x. peels-between fuel x)
-
-    pub drawn-thins : Thins o (drawn o large) (drawn o small)
-    unfolding drawn
-    drawn-thins = peels-between (triangles o) begun
+  -- peeling on from a limit's outline comes to that of a smaller limit
+  pub drawn-thins : (small large : ℕ) → small ≤ large → Thins o (drawn o large) (drawn o small)
+  drawn-thins small large below = let (n, r, e) = going-on a large small below in subst (λ k. Thins o (drawn o large) k) e (peels-thin small (triangles o - n) r)

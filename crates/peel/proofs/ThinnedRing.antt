@@ -102,7 +102,7 @@ module _ {o : Office} (a : Acceptable o) where
         let (n, q, f) = drawn-thins a 0 limit (omega arith) c r in
         let start : r .at 0 ≡ here .round .at 0 = from-step-at (last .round) i 0 ∙ ap (last .round .at) (omega arith) ∙ e in
         let begins : q .at 0 ≡ here .round .at 0 =
-            sym (getD-table (q .at) n 0 (q .long)) ∙ ap (λ (l : List ℕ). getD l 0 0) f ∙ keep-head test (r .at) c (r .long) (subst (λ p. test p ≡ true) (sym start) (here .begins)) ∙ start in
+        sym (getD-table (q .at) n 0 (q .long)) ∙ ap (λ (l : List ℕ). getD l 0 0) f ∙ keep-head test (r .at) c (r .long) (subst (λ p. test p ≡ true) (sym start) (here .begins)) ∙ start in
         let (j, l, w) = one-round (here .round) q in
         let zero : j ≡ 0 = apart-early (here .round) j 0 l (here .round .long) (ap (here .round .at) (omega arith) ∙ sym (w 0) ∙ begins) in
         here .reads

@@ -32,8 +32,9 @@ pub record DrawMeans (o : Office) (limit p a m : ℕ) (kept rim round kept′ ri
   pub room : (triangles o ≤ length kept) × (points o ≤ length rim) × (points o ≤ length round)
   pub shows : Shows o limit p kept rim round kept′ rim′ round′
   pub area-is : a ≡ doubled o (take (triangles o) kept′)
-  -- the ring stands in front
+  -- the ring stands in front, and m is its length
   pub ring-is : take m round′ ≡ ring o (take (triangles o) kept′)
+  pub length-is : m ≡ length (ring o (take (triangles o) kept′))
 
 -- a list that answered c entries
 pub record ListMeans (o : Office) (c : ℕ) (kept rim round least peeled area kept′ rim′ round′ least′ peeled′ area′ : List ℕ) : Type 0 where
