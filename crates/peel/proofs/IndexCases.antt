@@ -11,7 +11,7 @@ use Rattle.sheet.specs.Verdict.{verdict}
 use Rattle.rim.specs.Peel.{rim, on-rim, removable, before, better, best-from, best, turned, peels, drawn, ring, peeled, doubled}
 use Rattle.peel.specs.List.{listed, entries-from, entries, outline}
 use Rattle.peel.specs.LookUp.{place-of, halved}
-use Rattle.peel.specs.Index.{keep, bared, index-from, index, indices, limits, counts, thinned}
+use Rattle.peel.specs.Index.{keep, bared, index-from, index, indices, limits, counts, thin, thinned}
 use Rattle.peel.specs.Answer.{count as pairs, refusal}
 use Rattle.peel.specs.IndexAnswer.{indexing, after-index}
 use Rattle.peel.proofs.Dozen.{printed, ten}
@@ -46,7 +46,7 @@ printed-index : of printed (100 ∷ 99 ∷ 0 ∷ []) ≡ record {
   halving = 0 ∷ 1 ∷ 1 ∷ [];
   rings = (0 ∷ 1 ∷ 2 ∷ 3 ∷ []) ∷ (0 ∷ 1 ∷ 2 ∷ 3 ∷ 4 ∷ []) ∷ (0 ∷ 1 ∷ 2 ∷ 3 ∷ 4 ∷ []) ∷ [];
 }
-unfolding of place-of halved keep bared index-from index limits counts thinned first table count sum walk squared rim on-rim removable before better best-from best turned peels drawn ring peeled doubled outline listed entries-from entries
+unfolding of place-of halved keep bared index-from index limits counts thin first table count sum walk squared rim on-rim removable before better best-from best turned peels drawn ring peeled doubled outline listed entries-from entries
 printed-index = refl
 
 ten-index : of ten (58 ∷ 57 ∷ []) ≡ record {
@@ -57,7 +57,7 @@ ten-index : of ten (58 ∷ 57 ∷ []) ≡ record {
   halving = 0 ∷ 1 ∷ [];
   rings = (0 ∷ 1 ∷ 2 ∷ 3 ∷ 4 ∷ 5 ∷ 6 ∷ 7 ∷ []) ∷ (0 ∷ 9 ∷ 1 ∷ 2 ∷ 3 ∷ 4 ∷ 5 ∷ 6 ∷ 8 ∷ 7 ∷ []) ∷ [];
 }
-unfolding of place-of halved keep bared index-from index limits counts thinned first table count sum walk squared rim on-rim removable before better best-from best turned peels drawn ring peeled doubled outline listed entries-from entries
+unfolding of place-of halved keep bared index-from index limits counts thin first table count sum walk squared rim on-rim removable before better best-from best turned peels drawn ring peeled doubled outline listed entries-from entries
 ten-index = refl
 
 -- the printed office in other numbers: the inner point is 0, and the peel bares it between 2 and 3
@@ -73,7 +73,7 @@ low-index : of low (100 ∷ 0 ∷ []) ≡ record {
   halving = 0 ∷ 1 ∷ [];
   rings = (1 ∷ 2 ∷ 3 ∷ 4 ∷ []) ∷ (0 ∷ 3 ∷ 4 ∷ 1 ∷ 2 ∷ []) ∷ [];
 }
-unfolding of place-of halved keep bared index-from index limits counts thinned first table count sum walk squared rim on-rim removable before better best-from best turned peels drawn ring peeled doubled outline listed entries-from entries
+unfolding of place-of halved keep bared index-from index limits counts thin first table count sum walk squared rim on-rim removable before better best-from best turned peels drawn ring peeled doubled outline listed entries-from entries
 low-index = refl
 
 -- lent lists of sevens: a number per point and two pairs are written, the last place of each list stays; and a count list too short

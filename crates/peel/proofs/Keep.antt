@@ -1,15 +1,17 @@
 -- The laws of keeping some numbers of a list. Assumes nothing.
-use mathlib.Core.Path.{_≡_, refl, sym, ap, ap₂, _∙_}
+use mathlib.Core.Path.{_≡_, refl, sym, ap, ap₂, subst, _∙_}
 use mathlib.Core.Bool.{Bool, true, false, cond}
 use mathlib.Core.List.{List, [], _∷_, _++_}
-use Prim.Native.Nat.{ℕ, zero, suc, _<_, _≤_}
+use Prim.Native.Nat.{ℕ, zero, suc, _<_, _≤_, zero-le, suc-le-suc}
 use native.Mathlib.Nat.{not-suc-le-zero}
-use lib.ListN.{length, getD, take, drop}
-use lib.Seq.{take-append-le, drop-append-le}
-use Rattle.laws.specs.First.{table}
+use native.Mathlib.Omega.{arith}
+use lib.Dec.{eqb}
+use lib.ListN.{length, getD, take, drop, length-take, length-drop}
+use lib.Seq.{getD-take, getD-drop, take-append-le, drop-append-le}
+use Rattle.laws.specs.First.{first, table}
 use Rattle.laws.specs.Round.{rotated}
 use Rattle.laws.proofs.Test.{false-iff}
-use Rattle.peel.specs.Index.{keep}
+use Rattle.peel.specs.Index.{keep, begin, thin}
 
 pub keep-append : (test : ℕ → Bool) (ps qs : List ℕ) → keep test (ps ++ qs) ≡ keep test ps ++ keep test qs
 unfolding keep
@@ -19,11 +21,6 @@ keep-append test (p ∷ ps) qs = step (test p) (keep-append test ps qs)
     step : (b : Bool) → keep test (ps ++ qs) ≡ keep test ps ++ keep test qs → cond b (p ∷ keep test (ps ++ qs)) (keep test (ps ++ qs)) ≡ cond b (p ∷ keep test ps) (keep test ps) ++ keep test qs
     step true ih = ap (λ (l : List ℕ). p ∷ l) ih
     step false ih = ih
-
-pub keep-same : (f g : ℕ → Bool) (ps : List ℕ) → ((p : ℕ) → f p ≡ g p) → keep f ps ≡ keep g ps
-unfolding keep
-keep-same f g [] e = refl
-keep-same f g (p ∷ ps) e = ap₂ (λ (b : Bool) (l : List ℕ). cond b (p ∷ l) l) (e p) (keep-same f g ps e)
 
 -- a narrower test alone
 pub keep-twice : (f g : ℕ → Bool) (ps : List ℕ) → ((p : ℕ) → f p ≡ true → g p ≡ true) → keep f (keep g ps) ≡ keep f ps
@@ -66,3 +63,26 @@ pub table-last : (at : ℕ → ℕ) (m : ℕ) → table at (suc m) ≡ table at 
 unfolding table
 table-last at zero = refl
 table-last at (suc m) = ap (λ (l : List ℕ). at zero ∷ l) (table-last (λ i. at (suc i)) m)
+
+-- ---- tests that agree on the numbers that come up
+first-same : (f g : ℕ → Bool) (n : ℕ) → ((i : ℕ) → i < n → f i ≡ g i) → first f n ≡ first g n
+unfolding first
+first-same f g zero e = refl
+first-same f g (suc n) e =
+    ap₂ (λ (b : Bool) (r : ℕ). elim b as (λ _. ℕ) [ true ↦ zero | false ↦ suc r ]) (e zero (suc-le-suc zero-le)) (first-same (λ i. f (suc i)) (λ i. g (suc i)) n (λ i l. e (suc i) (suc-le-suc l)))
+
+pub keep-within : (f g : ℕ → Bool) (ps : List ℕ) → ((i : ℕ) → i < length ps → f (getD ps i 0) ≡ g (getD ps i 0)) → keep f ps ≡ keep g ps
+unfolding keep
+keep-within f g [] e = refl
+keep-within f g (p ∷ ps) e = ap₂ (λ (b : Bool) (l : List ℕ). cond b (p ∷ l) l) (e zero (suc-le-suc zero-le)) (keep-within f g ps (λ i l. e (suc i) (suc-le-suc l)))
+
+pub thin-same : (f g : ℕ → Bool) (n : ℕ) (row : List ℕ) → ((p : ℕ) → p < n → f p ≡ g p) → ((i : ℕ) → i < length row → getD row i 0 < n) → thin f n row ≡ thin g n row
+unfolding thin
+thin-same f g n row e low =
+    let j = begin f n row in
+    keep-append f (drop j row) (take j row)
+    ∙ ap₂ _++_
+    (keep-within f g (drop j row) (λ i l. let z = length-drop j row in e _ (subst (λ p. p < n) (sym (getD-drop j row i 0)) (low _ (omega arith)))))
+    (keep-within f g (take j row) (λ i l. let z = length-take j row in e _ (subst (λ p. p < n) (sym (getD-take j row i 0 (omega arith))) (low _ (omega arith)))))
+    ∙ sym (keep-append g (drop j row) (take j row))
+    ∙ ap (λ p. keep g (rotated (first (λ i. eqb (getD row i 0) p) (length row)) row)) (first-same f g n e)

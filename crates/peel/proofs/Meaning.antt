@@ -1,4 +1,4 @@
--- Whatever satisfies the promises of draw and list leaves in memory what documents 01's demands 2 and 3 ask; a refusal leaves all as lent. Assumes nothing.
+-- Whatever satisfies the promises of draw and list leaves in memory what document 01's demands 2 and 3 ask; a refusal leaves all as lent. Assumes nothing.
 use mathlib.Core.Path.{_≡_, refl, sym, ap, ap₂, subst, subst₂, _∙_}
 use mathlib.Core.Bool.{true}
 use mathlib.Core.List.{List, _++_, map}
@@ -47,8 +47,8 @@ module _ {o : Office} (a : Acceptable o) (limit : ℕ) {kept rim round kept′ r
   marks-front : take (triangles o) kept′ ≡ drawn o limit
   marks-front = ap (take (triangles o)) (l .marks) ∙ take-at (drawn o limit) (drop (triangles o) kept) (triangles o) size
 
-  shown : (triangles o ≤ length kept) × (points o ≤ length rim) × (points o ≤ length round) → Shows o limit (peeled o (drawn o limit)) kept rim round kept′ rim′ round′
-  shown (x, y, z) =
+  show-draw : (triangles o ≤ length kept) × (points o ≤ length rim) × (points o ≤ length round) → Shows o limit (peeled o (drawn o limit)) kept rim round kept′ rim′ round′
+  show-draw (x, y, z) =
       let (n, d) = drawn-outline a limit in
       let (m, _, r, _) = drawn-ends a limit in
       let fits : rims o (drawn o limit) ≤ length round = (let h = sound o a r in let u = ring-fits a h in let v = ring-length a h in let w = ring-sides o (drawn o limit) in omega arith) in
@@ -86,7 +86,7 @@ draw-means {xs} {ys} {corners} {limit} {kept} {rim} {round} {r} {kept′} {rim�
     record {
       acceptable = acceptable;
       room = room;
-      shows = subst (λ n. Shows o limit n kept rim round kept′ rim′ round′) (sym x) (shown acceptable limit l room);
+      shows = subst (λ n. Shows o limit n kept rim round kept′ rim′ round′) (sym x) (show-draw acceptable limit l room);
       area-is = y ∙ ap (doubled o) (sym front);
       ring-is = ap (λ n. take n round′) z ∙ ring-front acceptable limit l ∙ ap (ring o) (sym front);
       length-is = z ∙ sym (ring-sides o (drawn o limit)) ∙ ap (λ k. length (ring o k)) (sym front);
@@ -113,7 +113,7 @@ list-means {xs} {ys} {corners} {kept} {rim} {round} {least} {peels} {area} {r} {
       leasts = column-over acceptable (λ e. e .least) x u;
       peels = column-over acceptable (λ e. e .outline .peels) y w;
       areas = column-over acceptable (λ e. e .outline .area) s z;
-      shows = (peeled o (drawn o 0), shown acceptable 0 l (b, g, i));
+      shows = (peeled o (drawn o 0), show-draw acceptable 0 l (b, g, i));
     }
   where
     o : Office

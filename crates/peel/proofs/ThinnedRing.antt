@@ -23,11 +23,11 @@ use Rattle.rim.proofs.Reached.{sound}
 use Rattle.rim.proofs.Rings.{RingRound, outlined, ring-length}
 use Rattle.peel.specs.List.{Entry, At, entries, outline}
 use Rattle.peel.specs.LookUp.{place-of}
-use Rattle.peel.specs.Index.{keep, index, limits, counts, shown, begin, thinned}
+use Rattle.peel.specs.Index.{keep, index, limits, counts, above, shown, begin, thin, thinned}
 use Rattle.peel.proofs.DrawEnds.{drawn-ends}
 use Rattle.peel.proofs.Falls.{column-at}
 use Rattle.peel.proofs.Entries.{entry-drawn, placed}
-use Rattle.peel.proofs.Keep.{keep-same, keep-head}
+use Rattle.peel.proofs.Keep.{keep-within, keep-head, thin-same}
 use Rattle.peel.proofs.Indexes.{on-outline, indexed}
 use Rattle.peel.proofs.RoundPoints.{rim-at, at-point, rim-count}
 use Rattle.peel.proofs.Thinned.{drawn-thins}
@@ -72,17 +72,17 @@ module _ {o : Office} (a : Acceptable o) where
     at-zero = stays-on 0 limit (here .round .at 0) (omega arith) (here .begins)
 
     -- it stands in the ring of limit 0
-    found : (begin o limit (ring o (drawn o 0)) < c) × (last .round .at (begin o limit (ring o (drawn o 0))) ≡ here .round .at 0)
+    found : (begin (shown o limit) (points o) (ring o (drawn o 0)) < c) × (last .round .at (begin (shown o limit) (points o) (ring o (drawn o 0))) ≡ here .round .at 0)
     found =
         let row = ring o (drawn o 0) in
         let e = size in
         let (i, l, f) = rim-at o (drawn o 0) (last .round) (here .round .at 0) at-zero in
         let (b, t) = first-of (λ i. eqb (getD row i 0) (first (shown o limit) (points o))) (length row) i (omega arith) (eqb-iff .1 (read i l ∙ f ∙ sym lowest)) in
-        let d : begin o limit row < c = omega arith in
-        (d, sym (read (begin o limit row) d) ∙ eqb-iff .0 t ∙ lowest)
+        let d : begin (shown o limit) (points o) row < c = omega arith in
+        (d, sym (read (begin (shown o limit) (points o) row) d) ∙ eqb-iff .0 t ∙ lowest)
 
     -- at its front, where the point there is on the outline
-    front : shown o limit (getD (ring o (drawn o 0)) 0 0) ≡ true → begin o limit (ring o (drawn o 0)) ≡ 0
+    front : shown o limit (getD (ring o (drawn o 0)) 0 0) ≡ true → begin (shown o limit) (points o) (ring o (drawn o 0)) ≡ 0
     front e =
         let z = read 0 (last .round .long) in
         let x = here .lowest (getD (ring o (drawn o 0)) 0 0) (on-outline a (getD (ring o (drawn o 0)) 0 0) limit ∙ e) in
@@ -92,11 +92,11 @@ module _ {o : Office} (a : Acceptable o) where
         first-hit (λ i. eqb (getD (ring o (drawn o 0)) i 0) (first (shown o limit) (points o))) (length (ring o (drawn o 0))) 0
         (let l = last .round .long in let q = size in omega arith) (λ i l. absurd (omega arith)) (eqb-iff .1 f)
 
-    thin : ring o (drawn o limit) ≡ thinned o limit
-    unfolding thinned
-    thin =
+    by-rounds : ring o (drawn o limit) ≡ thinned o limit
+    unfolding thin
+    by-rounds =
         let (b, e) = found in
-        let i = begin o limit (ring o (drawn o 0)) in
+        let i = begin (shown o limit) (points o) (ring o (drawn o 0)) in
         let r = from-step (last .round) i in
         let test = on-rim o (drawn o limit) in
         let (n, q, f) = drawn-thins a 0 limit (omega arith) c r in
@@ -110,19 +110,28 @@ module _ {o : Office} (a : Acceptable o) where
         ∙ table-same (here .round .at) (q .at) n (λ x _. ap (here .round .at) (omega arith) ∙ sym (w x))
         ∙ f
         ∙ ap (keep test) (table-same (r .at) (λ x. last .round .at (i + x)) c (λ x _. from-step-at (last .round) i x) ∙ sym (rotated-table (last .round .at) c i (omega arith) (last .round .back)) ∙ ap (rotated i) (sym (last .reads)))
-        ∙ keep-same test (shown o limit) (rotated i (ring o (drawn o 0))) (λ p. on-outline a p limit)
+        ∙ keep-within test (shown o limit) (rotated i (ring o (drawn o 0))) (λ x _. on-outline a _ limit)
 
   pub ring-thinned : (limit : ℕ) → ring o (drawn o limit) ≡ thinned o limit
-  ring-thinned limit = let (m, here) = rung limit in let (c, last) = rung 0 in thin limit here last
+  ring-thinned limit = let (m, here) = rung limit in let (c, last) = rung 0 in by-rounds limit here last
 
   -- so is that of an entry
   pub entry-thinned : (i : ℕ) (e : Entry) → At (entries o) i e → e .outline .round ≡ thinned o (e .least)
   unfolding outline
   entry-thinned i e h = ap (λ x. x .round) (entry-drawn a i e h) ∙ ring-thinned (e .least)
 
+  -- by a list that holds the index of each point
+  pub ring-by-list : (limit : ℕ) (list : List ℕ) → ((p : ℕ) → p < points o → getD list p 0 ≡ index o p)
+      → ring o (drawn o limit) ≡ thin (λ p. above limit (getD list p 0)) (points o) (ring o (drawn o 0))
+  ring-by-list limit list e =
+      let (c, last) = rung 0 in
+      ring-thinned limit
+      ∙ thin-same (shown o limit) (λ p. above limit (getD list p 0)) (points o) (ring o (drawn o 0)) (λ p l. ap (above limit) (sym (e p l)))
+      (λ i l. subst (λ p. p < points o) (sym (read 0 (rung 0 .1) last i (let z = size 0 (rung 0 .1) last in omega arith))) (at-point o (drawn o 0) (last .round) a i))
+
   -- where the first point of the ring of limit 0 is on the outline, as one of the hull always is, nothing has to be turned
   pub ring-kept : (limit : ℕ) → shown o limit (getD (ring o (drawn o 0)) 0 0) ≡ true → ring o (drawn o limit) ≡ keep (shown o limit) (ring o (drawn o 0))
-  unfolding thinned
+  unfolding thin
   ring-kept limit e =
       let (m, here) = rung limit in
       let (c, last) = rung 0 in

@@ -23,6 +23,18 @@ unfoldable pub keep : (ℕ → Bool) → List ℕ → List ℕ
 keep test [] = []
 keep test (p ∷ ps) = cond (test p) (p ∷ keep test ps) (keep test ps)
 
+-- where the lowest of n numbers of which the test holds stands in a ring
+abbrev pub begin : (ℕ → Bool) → ℕ → List ℕ → ℕ
+begin test n row = first (λ i. eqb (getD row i 0) (first test n)) (length row)
+
+-- the numbers of a ring of which the test holds, from the lowest on
+unfoldable pub thin : (ℕ → Bool) → ℕ → List ℕ → List ℕ
+thin test n row = keep test (rotated (begin test n row) row)
+
+-- a point with number i in the index is on the outline at the limit
+abbrev pub above : ℕ → ℕ → Bool
+above limit i = ltb limit i || eqb i 4294967295
+
 module _ (o : Office) where
   -- the index of a point that is not on the rim of marks k, where `shortest` is the least length peeled before: a peel that bares the point
   -- gives it the least of all lengths so far; where nothing is left to peel, no limit brings it to the outline
@@ -51,15 +63,11 @@ module _ (o : Office) where
 
   -- by the index, point p is on the outline at the limit
   abbrev pub shown : ℕ → ℕ → Bool
-  shown limit p = ltb limit (index p) || eqb (index p) 4294967295
-
-  -- where the lowest point on the outline at the limit stands in a ring
-  abbrev pub begin : ℕ → List ℕ → ℕ
-  begin limit row = first (λ i. eqb (getD row i 0) (first (shown limit) (points o))) (length row)
+  shown limit p = above limit (index p)
 
   -- of the ring drawn at limit 0, the points on the outline at the limit, from the lowest on
-  unfoldable pub thinned : ℕ → List ℕ
-  thinned limit = keep (shown limit) (rotated (begin limit (ring o (drawn o 0))) (ring o (drawn o 0)))
+  abbrev pub thinned : ℕ → List ℕ
+  thinned limit = thin (shown limit) (points o) (ring o (drawn o 0))
 
 -- what number i says of point p, at every whole-number limit
 pub record Indexed (o : Office) (p i : ℕ) : Type 0 where
