@@ -2,16 +2,17 @@
 -- the hull, where the ring of limit 0 has to be turned. Assumes nothing.
 use Prim.Native.Nat.{ℕ}
 use mathlib.Core.Path.{_≡_, refl}
+use mathlib.Core.Bool.{true}
 use mathlib.Core.List.{List, [], _∷_, map}
 use lib.ListN.{replicate}
 use Rattle.laws.specs.First.{first, atFirst, table, count, sum, walk, stepped, among, once}
 use Rattle.sheet.specs.Plane.{turn, squared, circle}
 use Rattle.sheet.specs.Office.{Office, office}
-use Rattle.sheet.specs.Verdict.{verdict}
+use Rattle.sheet.specs.Verdict.{accepted, verdict}
 use Rattle.rim.specs.Peel.{rim, on-rim, removable, before, better, best-from, best, turned, peels, drawn, ring, peeled, doubled}
 use Rattle.peel.specs.List.{listed, entries-from, entries, outline}
 use Rattle.peel.specs.LookUp.{place-of, halved}
-use Rattle.peel.specs.Index.{keep, bared, index-from, index, indices, limits, counts, thin, thinned}
+use Rattle.peel.specs.Index.{keep, bared, index-from, index, indices, limits, counts, shown, thin, thinned}
 use Rattle.peel.specs.Answer.{count as pairs, refusal}
 use Rattle.peel.specs.IndexAnswer.{indexing, after-index}
 use Rattle.peel.proofs.Dozen.{printed, ten}
@@ -75,6 +76,11 @@ low-index : of low (100 ∷ 0 ∷ []) ≡ record {
 }
 unfolding of place-of halved keep bared index-from index limits counts thin first table count sum walk squared rim on-rim removable before better best-from best turned peels drawn ring peeled doubled outline listed entries-from entries
 low-index = refl
+
+-- it is acceptable; without the turn its points would stand in the right order, but begin at 3
+low-turns : ((verdict true low ≡ accepted 4) × (ring low (drawn low 100) ≡ 1 ∷ 2 ∷ 3 ∷ 4 ∷ [])) × (keep (shown low 100) (ring low (drawn low 0)) ≡ 3 ∷ 4 ∷ 1 ∷ 2 ∷ [])
+unfolding verdict atFirst stepped among once turn circle keep bared index-from index first table count walk squared rim on-rim removable before better best-from best turned peels drawn ring
+low-turns = ((refl, refl), refl)
 
 -- lent lists of sevens: a number per point and two pairs are written, the last place of each list stays; and a count list too short
 lent : after-index (printed .xs) (printed .ys) (printed .corners) (replicate 6 7) (replicate 3 7) (replicate 3 7) ≡ record {

@@ -33,7 +33,7 @@ pub record SameLent {o n : Office} (re : Renumbered o n) (m : ℕ) (kept rim rou
   pub rims : (p : ℕ) → p < points o → getD rim′ (re .number .to p) 0 ≡ getD rim p 0
   pub rings : Turned (re .number .to) (used round m) (used round′ m)
 
-turned-length : {number : ℕ → ℕ} {k l : List ℕ} → Turned number k l → length l ≡ length k
+pub turned-length : {number : ℕ → ℕ} {k l : List ℕ} → Turned number k l → length l ≡ length k
 turned-length {number} {k} ((i, b, e), _) = ap length e ∙ length-map (rotated i k) number ∙ length-rotated i k (le-of-lt b)
 
 -- where a draw of marks at the limit was written

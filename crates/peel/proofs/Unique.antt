@@ -1,9 +1,10 @@
--- Two outcomes that one promise allows are equal: of draw, of outline, of list. Assumes nothing.
+-- Two outcomes that one promise allows are equal: of draw, of outline, of list, of index. Assumes nothing.
 use mathlib.Core.Path.{_≡_, sym, ap, _∙_}
 use mathlib.Core.List.{List}
 use Prim.Native.Nat.{ℕ}
 use native.Mathlib.Omega.{arith}
-use Rattle.peel.specs.Answer.{draw-answer, list-answer, used, DrawPromise, ListPromise}
+use Rattle.peel.specs.Answer.{Answer, draw-answer, list-answer, used, DrawPromise, ListPromise}
+use Rattle.peel.specs.IndexAnswer.{IndexPromise}
 use Rattle.sheet.specs.declared.Refusal.{Refusal}
 use Rattle.peel.specs.declared.Drawn.{Drawn}
 use Rattle.peel.specs.declared.Drawn.the-variants.{Outline, Refused}
@@ -51,3 +52,7 @@ unique-list {r = r} {q} x y = (
   x .peeled-is ∙ sym (y .peeled-is),
   x .area-is ∙ sym (y .area-is),
 )
+
+pub unique-index : {xs ys corners index least number : List ℕ} {r q : Answer} {i l n i′ l′ n′ : List ℕ}
+    → IndexPromise xs ys corners index least number r i l n → IndexPromise xs ys corners index least number q i′ l′ n′ → (r ≡ q) × (i ≡ i′) × (l ≡ l′) × (n ≡ n′)
+unique-index x y = (x .answers ∙ sym (y .answers), x .index-is ∙ sym (y .index-is), x .limits-are ∙ sym (y .limits-are), x .counts-are ∙ sym (y .counts-are))
