@@ -47,7 +47,7 @@ module _ {o : Office} (a : Acceptable o) where
         step true = ih s (more s r l e) (rim-grows s p r l (l, e, t) ∙ ap (λ b. b || eqb p (apex o s)) h)
         step false = h
 
-    pub stays-on : (limit fuel : ℕ) {n : ℕ} {k : List ℕ} → Reached o n k → on-rim o k p ≡ true → on-rim o (peels o fuel limit k) p ≡ true
+    stays-on : (limit fuel : ℕ) {n : ℕ} {k : List ℕ} → Reached o n k → on-rim o k p ≡ true → on-rim o (peels o fuel limit k) p ≡ true
     unfolding peels
     stays-on limit zero r h = h
     stays-on limit (suc fuel) {n} {k} r h = turn-stays limit (peels o fuel limit) (best o k) r (best-top a k) h (λ s x y. stays-on limit fuel x y)

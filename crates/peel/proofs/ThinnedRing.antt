@@ -43,8 +43,8 @@ module _ {o : Office} (a : Acceptable o) where
   pair-count limit = let (e, h, _, x) = placed a limit in column-at (λ e. length (e .outline .round)) (entries o) _ h ∙ ap (λ x. length (x .round)) x ∙ sym (ring-count limit)
 
   -- a point on the outline is on it at each smaller limit
-  pub stays-on : (small large p : ℕ) → small ≤ large → on-rim o (drawn o large) p ≡ true → on-rim o (drawn o small) p ≡ true
-  stays-on small large p l e = indexed a p .agrees small .1 (step (indexed a p .agrees large .0 e))
+  pub on-at-smaller : (small large p : ℕ) → small ≤ large → on-rim o (drawn o large) p ≡ true → on-rim o (drawn o small) p ≡ true
+  on-at-smaller small large p l e = indexed a p .agrees small .1 (step (indexed a p .agrees large .0 e))
     where
       step : (large < index o p) ⊎ (index o p ≡ 4294967295) → (small < index o p) ⊎ (index o p ≡ 4294967295)
       step (inl h) = inl (omega arith)
@@ -69,7 +69,7 @@ module _ {o : Office} (a : Acceptable o) where
     read i l = ap (λ (l : List ℕ). getD l i 0) (last .reads) ∙ getD-table (last .round .at) c i l
 
     at-zero : on-rim o (drawn o 0) (here .round .at 0) ≡ true
-    at-zero = stays-on 0 limit (here .round .at 0) (omega arith) (here .begins)
+    at-zero = on-at-smaller 0 limit (here .round .at 0) (omega arith) (here .begins)
 
     -- it stands in the ring of limit 0
     found : (begin (shown o limit) (points o) (ring o (drawn o 0)) < c) × (last .round .at (begin (shown o limit) (points o) (ring o (drawn o 0))) ≡ here .round .at 0)
