@@ -14,7 +14,16 @@ pub mod TopSide
 pub mod Mated
 pub mod Cornered
 pub mod InOrder
-pub mod Finding
+-- the queue
+pub mod Ranked
+pub mod Bag
+pub mod Stored
+pub mod Rising
+pub mod Sinking
+pub mod Queueing
+pub mod Gathered
+-- a step
 pub mod Stepping
+pub mod Joining
 pub mod Begun
 pub mod Ringed

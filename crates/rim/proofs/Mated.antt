@@ -24,7 +24,7 @@ module _ (o : Office) (single : Single o) (k : List ℕ) (s : ℕ) where
   abbrev mate : ℕ
   mate = first (reverse o s) (sides o)
 
-  is-mate : (r : ℕ) → r < sides o → Reverse o s r → (mate < sides o) × (r ≡ mate)
+  pub is-mate : (r : ℕ) → r < sides o → Reverse o s r → (mate < sides o) × (r ≡ mate)
   is-mate r l v =
       let (b, e) = first-of (reverse o s) (sides o) r l (simp plain v) in
       let w = reverse-iff o s mate e in

@@ -73,7 +73,7 @@ module _ (o : Office) (limit : ℕ) (mate kept rim : List ℕ) (peeled area ring
     pub side-there : s < sides o
     side-there = top .0
 
-    can : Peelable o k s
+    pub can : Peelable o k s
     can = record { size = length-take-le (triangles o) kept (h .held .room); below = top .0; may = top .1 }
 
     pub triangle-there : s / 3 < triangles o
@@ -92,14 +92,13 @@ module _ (o : Office) (limit : ℕ) (mate kept rim : List ℕ) (peeled area ring
     pub ring-there : ring ≤ points o
     ring-there = let r = sound o (h .held .acceptable) (h .reached) in omega (arith, rims-are (h .held .acceptable) r, ring-fits (h .held .acceptable) r, h .rings)
 
-    kept′ : List ℕ
+    abbrev kept′ : List ℕ
     kept′ = set kept (s / 3) 0
 
     rim′ : List ℕ
     rim′ = set rim (apex o s) 1
 
-    front-is : front (o .corners) kept′ ≡ peel k s
-    unfolding kept′
+    pub front-is : front (o .corners) (set kept (s / 3) 0) ≡ peel k s
     front-is = take-set-lt (triangles o) kept (s / 3) 0 triangle-there
 
     on : (p : ℕ) → p < points o → getD rim′ p 0 ≡ mark (on-rim o (front (o .corners) kept′) p)
@@ -121,7 +120,7 @@ module _ (o : Office) (limit : ℕ) (mate kept rim : List ℕ) (peeled area ring
     pub peels-one : {gone peeled′ area′ ring′ : ℕ} → limit < q → gone ≡ natAbs (Rattle.sheet.specs.Office.area o (s / 3))
         → (peeled′ ≡ peeled + 1) × (area′ ≡ area - gone) × (ring′ ≡ ring + 1)
         → Stepped o limit mate kept rim (set kept (s / 3) 0) (set rim (apex o s) 1) peeled (Peeled (s / 3) q) peeled′ area′ ring′
-    unfolding turned kept′ rim′
+    unfolding turned rim′
     peels-one l z (u, x, y) = let b = (let w = long-is in lt-ltb limit (long o s) (omega arith)) in record {
       state = record {
         held = record {

@@ -1,3 +1,4 @@
 pub mod Peel
 pub mod Reached
 pub mod Code
+pub mod Heap

@@ -7,6 +7,12 @@ pub enum Best {
     Nothing,
 }
 
+// The same, and how many sides wait.
+pub struct Found {
+    pub side: Best,
+    pub waiting: usize,
+}
+
 // A side's two ends by their point numbers, in their order.
 pub struct Ends {
     pub first: usize,
@@ -19,8 +25,9 @@ pub enum Step {
     Nothing,
 }
 
-// A step's answer, and the tally that it hands back.
+// A step's answer, the tally that it hands back, and how many sides wait.
 pub struct Moved {
     pub step: Step,
     pub tally: Tally,
+    pub waiting: usize,
 }

@@ -1,9 +1,6 @@
-// The side to peel next.
+// The order in which sides are peeled.
 // For this crate: no public call, so a `requires` may stand.
-use crate::answers::Best;
 use crate::answers::Ends;
-use crate::sides::is_rim;
-use crate::sides::side_squared;
 use sheet::plane::wide;
 ghost use mathlib.Core.Path.{_≡_};
 ghost use Prim.Native.Nat.{_<_};
@@ -11,7 +8,7 @@ ghost use lib.ListN.{length};
 ghost use mathlib.Core.List.{[]};
 ghost use Rattle.sheet.specs.Office.{office, point};
 ghost use Rattle.sheet.specs.Acceptable.{Acceptable};
-ghost use Rattle.rim.specs.Code.{front, earlier, Ordered, Held, told, side-of, place-of};
+ghost use Rattle.rim.specs.Code.{earlier, Ordered};
 ghost use Rattle.rim.specs.Peel as peeling;
 
 // Whether point p comes before point q: it has the smaller x; of equal x, the smaller y.
@@ -72,71 +69,4 @@ pub fn goes_before(
         return false;
     }
     is_sooner(xs, ys, e.second, f.second)
-}
-
-// The better one of the side found so far and side s.
-pub fn better(
-    xs: &[u16],
-    ys: &[u16],
-    corners: &[u16],
-    mate: &[u16; 6129],
-    kept: &[u8],
-    rim: &[u8],
-    s: usize,
-    found: Best,
-) -> Best
-    requires { ⌜ Held (office (now xs) (now ys) (now corners)) (now mate) (now kept) (now rim) × (s < length (now corners)) ⌝ }
-    requires { ⌜ (found ≡ told (office (now xs) (now ys) (now corners)) (side-of found)) × (place-of found < length (now corners)) ⌝ }
-    ensures { λ r. ⌜ (r ≡ told (office (now (xs .entry)) (now (ys .entry)) (now (corners .entry))) (peeling.better (office (now (xs .entry)) (now (ys .entry)) (now (corners .entry))) (front (now (corners .entry)) (now (kept .entry))) s (side-of found))) × (place-of r < length (now (corners .entry))) ⌝ }
-{
-    let a = s / 3 * 3 + (s + 2) % 3;
-    let apex = corners[a] as usize;
-    let taken = rim[apex] == 1;
-    if taken {
-        return found; // s is not removable
-    }
-    let bare = is_rim(corners, mate, kept, s);
-    if !bare {
-        return found;
-    }
-    let long = side_squared(xs, ys, corners, s);
-    match found {
-        Best::Nothing => {
-            return Best::Side {
-                place: s,
-                squared: long,
-            };
-        }
-        Best::Side { place, squared } => {
-            let first = goes_before(xs, ys, corners, s, long, place, squared);
-            if first {
-                return Best::Side {
-                    place: s,
-                    squared: long,
-                };
-            }
-            return found;
-        }
-    }
-}
-
-// The side to peel next.
-pub fn best_side(
-    xs: &[u16],
-    ys: &[u16],
-    corners: &[u16],
-    mate: &[u16; 6129],
-    kept: &[u8],
-    rim: &[u8],
-) -> Best
-    requires { ⌜ Held (office (now xs) (now ys) (now corners)) (now mate) (now kept) (now rim) ⌝ }
-    ensures { λ r. ⌜ r ≡ told (office (now (xs .entry)) (now (ys .entry)) (now (corners .entry))) (peeling.best (office (now (xs .entry)) (now (ys .entry)) (now (corners .entry))) (front (now (corners .entry)) (now (kept .entry)))) ⌝ }
-{
-    let mut found = Best::Nothing;
-    let mut s = 0;
-    while s < corners.len() {
-        found = better(xs, ys, corners, mate, kept, rim, s, found);
-        s += 1;
-    }
-    found
 }

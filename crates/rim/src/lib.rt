@@ -2,6 +2,7 @@
 // For the layers above: no public call, so a `requires` may stand.
 pub mod answers;
 mod best;
+pub mod queue;
 pub mod ring;
 mod sides;
 pub mod start;

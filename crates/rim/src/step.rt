@@ -4,10 +4,12 @@ use crate::Tally;
 use crate::answers::Best;
 use crate::answers::Moved;
 use crate::answers::Step;
-use crate::best::best_side;
+use crate::queue::join;
+use crate::queue::next_side;
 use crate::sides::area_of;
 ghost use Rattle.sheet.specs.Office.{office};
-ghost use Rattle.rim.specs.Code.{State, Stepped};
+ghost use Rattle.rim.specs.Code.{front, State, Stepped};
+ghost use Rattle.rim.specs.Heap.{Queued};
 
 // Peels the side to peel next where it is longer than the limit.
 pub fn step(
@@ -17,18 +19,35 @@ pub fn step(
     mate: &[u16; 6129],
     kept: &mut [u8],
     rim: &mut [u8],
+    queue: &mut [u16; 1024],
+    longs: &mut [u32; 1024],
+    waiting: usize,
     limit: u32,
     tally: Tally,
 ) -> Moved
-    requires { ⌜ State (office (now xs) (now ys) (now corners)) (now mate) (now kept) (now rim) (tally .peeled) (tally .area) (tally .ring) ⌝ }
+    requires { ⌜ State (office (now xs) (now ys) (now corners)) (now mate) (now kept) (now rim) (tally .peeled) (tally .area) (tally .ring) × Queued (office (now xs) (now ys) (now corners)) (front (now corners) (now kept)) (now queue) (now longs) waiting ⌝ }
     ensures { λ r. ⌜ Stepped (office (now (xs .entry)) (now (ys .entry)) (now (corners .entry))) limit (now (mate .entry)) (now (kept .entry)) (now (rim .entry)) (now (kept .exit)) (now (rim .exit)) (tally .peeled) (r .step) (r .tally .peeled) (r .tally .area) (r .tally .ring) ⌝ }
+    ensures { λ r. ⌜ Queued (office (now (xs .entry)) (now (ys .entry)) (now (corners .entry))) (front (now (corners .entry)) (now (kept .exit))) (now (queue .exit)) (now (longs .exit)) (r .waiting) ⌝ }
 {
-    let found = best_side(xs, ys, corners, mate, kept, rim);
+    let next = next_side(
+        xs,
+        ys,
+        corners,
+        mate,
+        kept,
+        rim,
+        queue,
+        longs,
+        waiting,
+    );
+    let n = next.waiting;
+    let found = next.side;
     match found {
         Best::Nothing => {
             return Moved {
                 step: Step::Nothing,
                 tally: tally,
+                waiting: n,
             };
         }
         Best::Side { place, squared } => {
@@ -36,6 +55,7 @@ pub fn step(
                 return Moved {
                     step: Step::Nothing,
                     tally: tally,
+                    waiting: n,
                 };
             }
             let triangle = place / 3;
@@ -44,6 +64,7 @@ pub fn step(
             let apex = corners[a] as usize;
             kept[triangle] = 0;
             rim[apex] = 1;
+            join(xs, ys, corners, mate, queue, longs, n, place);
             let after = tally.after_peel(tally.area - gone, tally.ring + 1);
             return Moved {
                 step: Step::Peeled {
@@ -51,6 +72,7 @@ pub fn step(
                     squared: squared,
                 },
                 tally: after,
+                waiting: n + 1,
             };
         }
     }

@@ -1,0 +1,237 @@
+// The sides that wait to be peeled: a binary heap of their places, with the squared length of each beside it. The side that goes before all others
+// stands first. At most one waits for each side of the rim, so 1,024 places are enough.
+// For the layer above: no public call, so a `requires` may stand.
+use crate::answers::Best;
+use crate::answers::Found;
+use crate::best::goes_before;
+use crate::sides::is_rim;
+use crate::sides::side_squared;
+use sheet::plane::wide;
+ghost use mathlib.Core.Path.{_≡_};
+ghost use Prim.Native.Nat.{_+_, _*_, _/_, _%_, _<_, _≤_};
+ghost use lib.Dec.{ltb};
+ghost use lib.ListN.{length, getD, take};
+ghost use Rattle.laws.specs.First.{table};
+ghost use Rattle.sheet.specs.Office.{office, mate-of, next, last};
+ghost use Rattle.sheet.specs.Acceptable.{Acceptable};
+ghost use Rattle.rim.specs.Code.{front, Held};
+ghost use Rattle.rim.specs.Heap.{rank, Heap, Pushed, Sunk, Popped, Joined, Leading, Queued, Next};
+ghost use Rattle.rim.specs.Peel as peeling;
+
+// Whether side s, of squared length long, goes before side r, of squared length other.
+fn outranks(
+    xs: &[u16],
+    ys: &[u16],
+    corners: &[u16],
+    s: u16,
+    long: u32,
+    r: u16,
+    other: u32,
+) -> bool
+    requires { ⌜ Acceptable (office (now xs) (now ys) (now corners)) × (s < length (now corners)) × (r < length (now corners)) × (long ≡ peeling.long (office (now xs) (now ys) (now corners)) s) × (other ≡ peeling.long (office (now xs) (now ys) (now corners)) r) ⌝ }
+    ensures { λ b. ⌜ b ≡ ltb (rank (office (now (xs .entry)) (now (ys .entry)) (now (corners .entry))) r) (rank (office (now (xs .entry)) (now (ys .entry)) (now (corners .entry))) s) ⌝ }
+{
+    goes_before(xs, ys, corners, s as usize, long, r as usize, other)
+}
+
+// Puts side s, of squared length long, to the n that wait.
+pub fn push(
+    xs: &[u16],
+    ys: &[u16],
+    corners: &[u16],
+    queue: &mut [u16; 1024],
+    longs: &mut [u32; 1024],
+    n: usize,
+    s: u16,
+    long: u32,
+)
+    requires { ⌜ Acceptable (office (now xs) (now ys) (now corners)) × (n < 1024) × Heap (office (now xs) (now ys) (now corners)) (now queue) (now longs) n ⌝ }
+    requires { ⌜ (s < length (now corners)) × (long ≡ peeling.long (office (now xs) (now ys) (now corners)) s) ⌝ }
+    ensures { λ _. ⌜ Pushed (office (now (xs .entry)) (now (ys .entry)) (now (corners .entry))) (now (queue .entry)) (now (queue .exit)) (now (longs .exit)) n s ⌝ }
+{
+    let mut i = n;
+    while i > 0 {
+        let p = (i - 1) / 2;
+        let other = queue[p];
+        let than = longs[p];
+        let up = outranks(xs, ys, corners, s, long, other, than);
+        if !up {
+            break;
+        }
+        queue[i] = other;
+        longs[i] = than;
+        i = p;
+    }
+    queue[i] = s;
+    longs[i] = long;
+}
+
+// Of place c and the next, of those below m, the one whose side goes first.
+pub fn leader(
+    xs: &[u16],
+    ys: &[u16],
+    corners: &[u16],
+    queue: &[u16; 1024],
+    longs: &[u32; 1024],
+    m: usize,
+    c: usize,
+) -> usize
+    requires { ⌜ Acceptable (office (now xs) (now ys) (now corners)) × (c < m) × (m ≤ 1024) × Heap (office (now xs) (now ys) (now corners)) (now queue) (now longs) m ⌝ }
+    ensures { λ r. ⌜ Leading (office (now (xs .entry)) (now (ys .entry)) (now (corners .entry))) (now (queue .entry)) m c r ⌝ }
+{
+    let d = c + 1;
+    if d >= m {
+        return c;
+    }
+    let later = outranks(xs, ys, corners, queue[d], longs[d], queue[c], longs[c]);
+    if later {
+        return d;
+    }
+    c
+}
+
+// Puts side s, of squared length long, in the place of the first of the m that wait.
+pub fn sink(
+    xs: &[u16],
+    ys: &[u16],
+    corners: &[u16],
+    queue: &mut [u16; 1024],
+    longs: &mut [u32; 1024],
+    m: usize,
+    s: u16,
+    long: u32,
+)
+    requires { ⌜ Acceptable (office (now xs) (now ys) (now corners)) × (0 < m) × (m ≤ 1024) × Heap (office (now xs) (now ys) (now corners)) (now queue) (now longs) m ⌝ }
+    requires { ⌜ (s < length (now corners)) × (long ≡ peeling.long (office (now xs) (now ys) (now corners)) s) ⌝ }
+    ensures { λ _. ⌜ Sunk (office (now (xs .entry)) (now (ys .entry)) (now (corners .entry))) (now (queue .entry)) (now (queue .exit)) (now (longs .exit)) m s ⌝ }
+{
+    let mut i = 0;
+    let mut c = 1;
+    while c < m {
+        let g = leader(xs, ys, corners, queue, longs, m, c);
+        let other = queue[g];
+        let than = longs[g];
+        let up = outranks(xs, ys, corners, other, than, s, long);
+        if !up {
+            break;
+        }
+        queue[i] = other;
+        longs[i] = than;
+        i = g;
+        c = 2 * g + 1;
+    }
+    queue[i] = s;
+    longs[i] = long;
+}
+
+// Drops the first of the n that wait.
+pub fn drop_first(
+    xs: &[u16],
+    ys: &[u16],
+    corners: &[u16],
+    queue: &mut [u16; 1024],
+    longs: &mut [u32; 1024],
+    n: usize,
+)
+    requires { ⌜ Acceptable (office (now xs) (now ys) (now corners)) × (0 < n) × (n ≤ 1024) × Heap (office (now xs) (now ys) (now corners)) (now queue) (now longs) n ⌝ }
+    ensures { λ _. ⌜ Popped (office (now (xs .entry)) (now (ys .entry)) (now (corners .entry))) (now (queue .entry)) (now (queue .exit)) (now (longs .exit)) n ⌝ }
+{
+    let m = n - 1;
+    if m > 0 {
+        let s = queue[m];
+        let long = longs[m];
+        sink(xs, ys, corners, queue, longs, m, s, long);
+    }
+}
+
+// Puts the mates of the two other sides of side s's triangle in the place of the first of the n that wait.
+pub fn join(
+    xs: &[u16],
+    ys: &[u16],
+    corners: &[u16],
+    mate: &[u16; 6129],
+    queue: &mut [u16; 1024],
+    longs: &mut [u32; 1024],
+    n: usize,
+    s: usize,
+)
+    requires { ⌜ Acceptable (office (now xs) (now ys) (now corners)) × (0 < n) × (n < 1024) × Heap (office (now xs) (now ys) (now corners)) (now queue) (now longs) n ⌝ }
+    requires { ⌜ (s < length (now corners)) × (getD (now mate) (next s) 0 < length (now corners)) × (getD (now mate) (last s) 0 < length (now corners)) ⌝ }
+    ensures { λ _. ⌜ Joined (office (now (xs .entry)) (now (ys .entry)) (now (corners .entry))) (now (queue .entry)) (now (queue .exit)) (now (longs .exit)) n (getD (now (mate .entry)) (next s) 0) (getD (now (mate .entry)) (last s) 0) ⌝ }
+{
+    let e = s / 3 * 3 + (s + 1) % 3;
+    let outward = mate[e];
+    let one = side_squared(xs, ys, corners, wide(outward));
+    sink(xs, ys, corners, queue, longs, n, outward, one);
+    let f = s / 3 * 3 + (s + 2) % 3;
+    let inward = mate[f];
+    let two = side_squared(xs, ys, corners, wide(inward));
+    push(xs, ys, corners, queue, longs, n, inward, two);
+}
+
+// Puts all sides of the rim into the queue; how many they are.
+pub fn gather(
+    xs: &[u16],
+    ys: &[u16],
+    corners: &[u16],
+    mate: &[u16; 6129],
+    kept: &[u8],
+    queue: &mut [u16; 1024],
+    longs: &mut [u32; 1024],
+) -> usize
+    requires { ⌜ Acceptable (office (now xs) (now ys) (now corners)) × (length (now corners) / 3 ≤ length (now kept)) × (peeling.rims (office (now xs) (now ys) (now corners)) (front (now corners) (now kept)) ≤ 1024) × (length (now queue) ≡ 1024) × (length (now longs) ≡ 1024) ⌝ }
+    requires { ⌜ take (length (now corners)) (now mate) ≡ table (mate-of (now corners)) (length (now corners)) ⌝ }
+    ensures { λ r. ⌜ Queued (office (now (xs .entry)) (now (ys .entry)) (now (corners .entry))) (front (now (corners .entry)) (now (kept .entry))) (now (queue .exit)) (now (longs .exit)) r ⌝ }
+{
+    let mut n = 0;
+    let mut s = 0;
+    while s < corners.len() {
+        let here = s;
+        s += 1;
+        let bared = is_rim(corners, mate, kept, here);
+        if bared {
+            let long = side_squared(xs, ys, corners, here);
+            push(xs, ys, corners, queue, longs, n, here as u16, long);
+            n += 1;
+        }
+    }
+    n
+}
+
+// The side to peel next, which then stands first. Sides before it whose triangle's third corner is on the rim are dropped: they are not removable any more.
+pub fn next_side(
+    xs: &[u16],
+    ys: &[u16],
+    corners: &[u16],
+    mate: &[u16; 6129],
+    kept: &[u8],
+    rim: &[u8],
+    queue: &mut [u16; 1024],
+    longs: &mut [u32; 1024],
+    waiting: usize,
+) -> Found
+    requires { ⌜ Held (office (now xs) (now ys) (now corners)) (now mate) (now kept) (now rim) × (waiting ≤ 1024) × Queued (office (now xs) (now ys) (now corners)) (front (now corners) (now kept)) (now queue) (now longs) waiting ⌝ }
+    ensures { λ r. ⌜ Next (office (now (xs .entry)) (now (ys .entry)) (now (corners .entry))) (front (now (corners .entry)) (now (kept .entry))) (now (queue .exit)) (now (longs .exit)) (r .waiting) (r .side) ⌝ }
+{
+    let mut n = waiting;
+    while n > 0 {
+        let s = wide(queue[0]);
+        let a = s / 3 * 3 + (s + 2) % 3;
+        let apex = wide(corners[a]);
+        if rim[apex] != 1 {
+            return Found {
+                side: Best::Side {
+                    place: s,
+                    squared: longs[0],
+                },
+                waiting: n,
+            };
+        }
+        drop_first(xs, ys, corners, queue, longs, n);
+        n -= 1;
+    }
+    Found {
+        side: Best::Nothing,
+        waiting: n,
+    }
+}
