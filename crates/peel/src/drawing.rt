@@ -1,6 +1,7 @@
 // The outline of an acceptable office at a limit. For this crate and the list printer: no public call, so a `requires` may stand.
 use rim::Tally;
 use rim::answers::Step;
+use rim::queue::gather;
 use rim::ring::lay_ring;
 use rim::start::begin;
 use rim::step::step;
@@ -29,11 +30,27 @@ pub fn peel_all(
     requires { ⌜ State (office (now xs) (now ys) (now corners)) (now mate) (now kept) (now rim) (begun .peeled) (begun .area) (begun .ring) ⌝ }
     ensures { λ r. ⌜ Drew (office (now (xs .entry)) (now (ys .entry)) (now (corners .entry))) limit (now (mate .entry)) (now (kept .entry)) (now (rim .entry)) (begun .peeled) (now (kept .exit)) (now (rim .exit)) (r .peeled) (r .area) (r .ring) ⌝ }
 {
+    let mut queue = [0u16; 1024];
+    let mut longs = [0u32; 1024];
+    let mut waiting = gather(xs, ys, corners, mate, kept, &mut queue, &mut longs);
     let mut tally = begun;
     loop {
-        let moved = step(xs, ys, corners, mate, kept, rim, limit, tally);
+        let moved = step(
+            xs,
+            ys,
+            corners,
+            mate,
+            kept,
+            rim,
+            &mut queue,
+            &mut longs,
+            waiting,
+            limit,
+            tally,
+        );
         let next = moved.tally;
         tally = next;
+        waiting = moved.waiting;
         let answer = moved.step;
         match answer {
             Step::Nothing => {

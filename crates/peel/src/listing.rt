@@ -2,6 +2,7 @@
 // For this crate: no public call, so a `requires` may stand.
 use rim::Tally;
 use rim::answers::Step;
+use rim::queue::gather;
 use rim::ring::lay_ring;
 use rim::start::begin;
 use rim::step::step;
@@ -41,15 +42,31 @@ pub fn list_all(
     ensures { λ r. ⌜ Drew (office (now (xs .entry)) (now (ys .entry)) (now (corners .entry))) 0 (now (mate .entry)) (now (kept .entry)) (now (rim .entry)) (begun .peeled) (now (kept .exit)) (now (rim .exit)) (r .tally .peeled) (r .tally .area) (r .tally .ring) ⌝ }
     ensures { λ r. ⌜ Noted (entries-on (office (now (xs .entry)) (now (ys .entry)) (now (corners .entry))) (now (kept .entry)) (begun .peeled)) (now (least .entry)) (now (peeled .entry)) (now (area .entry)) (now (least .exit)) (now (peeled .exit)) (now (area .exit)) (r .count) ⌝ }
 {
+    let mut queue = [0u16; 1024];
+    let mut longs = [0u32; 1024];
+    let mut waiting = gather(xs, ys, corners, mate, kept, &mut queue, &mut longs);
     let mut tally = begun;
     let mut shortest: u32 = 4294967295;
     let mut count: usize = 0;
     loop {
         let p = tally.peeled;
         let a = tally.area;
-        let moved = step(xs, ys, corners, mate, kept, rim, 0, tally);
+        let moved = step(
+            xs,
+            ys,
+            corners,
+            mate,
+            kept,
+            rim,
+            &mut queue,
+            &mut longs,
+            waiting,
+            0,
+            tally,
+        );
         let next = moved.tally;
         tally = next;
+        waiting = moved.waiting;
         let answer = moved.step;
         match answer {
             Step::Nothing => {
