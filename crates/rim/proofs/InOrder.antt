@@ -1,10 +1,11 @@
 -- The order of sides as the code finds it: by lengths, then by first ends, then by second ends. Assumes nothing.
-use mathlib.Core.Path.{_≡_, sym, _∙_}
+use mathlib.Core.Path.{_≡_, refl, sym, _∙_}
 use mathlib.Core.Logic.{_↔_, inl, inr}
 use mathlib.Core.Bool.{Bool, true, false}
 use Prim.Native.Nat.{ℕ, _<_}
 use native.Mathlib.Omega.{arith}
 use lib.Dec.{ltb}
+use borrow.Author.Tests.{le-ltb, eq-eqb}
 use Rattle.laws.proofs.Test.{false-iff, same-answer, ltb-iff}
 use Rattle.laws.proofs.Order.{Lex, level, lex-iff}
 use Rattle.sheet.specs.Plane.{Point}
@@ -88,6 +89,10 @@ module _ {o : Office} (h : Acceptable o) (s : ℕ) (l : s < sides o) {a b : ℕ}
 module _ (o : Office) (s long r other : ℕ) where
   pub earlier-longer : (other ≡ long → ⊥) → ltb other long ≡ earlier o s long r other
   earlier-longer = by-length long (point o (first-end o s)) (point o (second-end o s)) other (point o (first-end o r)) (point o (second-end o r))
+
+  -- the ends decide at one length as at another
+  pub earlier-level : other ≡ long → earlier o s 0 r 0 ≡ earlier o s long r other
+  earlier-level e = rw (e, le-ltb long long (omega arith), eq-eqb long long refl)
 
   module _ {a b c d : ℕ} (e : Ordered o s a b) (f : Ordered o r c d) (same : other ≡ long) where
     as-found : precedes long (point o a) (point o b) other (point o c) (point o d) ≡ earlier o s long r other

@@ -1,5 +1,5 @@
 -- The order of sides in one number. Assumes nothing.
-use mathlib.Core.Path.{_≡_, sym, ap, _∙_}
+use mathlib.Core.Path.{_≡_, refl, sym, ap, _∙_}
 use mathlib.Core.Logic.{_↔_, _⊎_, inl, inr}
 use mathlib.Core.Bool.{Bool, true, false, cond}
 use Prim.Native.Nat.{ℕ, _+_, _*_, _-_, _<_, _≤_}
@@ -15,6 +15,7 @@ use Rattle.sheet.proofs.Side.{next-below}
 use Rattle.rim.specs.Peel.{sooner, long, first-end, second-end, before}
 use Rattle.rim.specs.Code.{earlier}
 use Rattle.rim.specs.Heap.{rank}
+use Rattle.rim.proofs.InOrder.{earlier-level}
 use Rattle.rim.proofs.TopSide.{Precedes, Before, before-iff}
 
 through : {X Y Z : Type 0} → X ↔ Y → Y ↔ Z → X ↔ Z
@@ -115,12 +116,18 @@ module _ {o : Office} (a : Acceptable o) where
       let (u, v) = ends r (turned r) m in
       number-iff (long o s) (point o (first-end o s)) (point o (second-end o s)) (long o r) (point o (first-end o r)) (point o (second-end o r)) x y u v
 
+  pub longer-first : (s r : ℕ) → s < sides o → r < sides o → long o r < long o s → rank o r < rank o s
+  longer-first s r l m h = rank-iff s r l m .0 (inl h)
+
   -- what the code's comparison says
   pub outranks-is : {b : Bool} (s r : ℕ) → s < sides o → r < sides o → {q p : ℕ} → q ≡ long o s → p ≡ long o r → b ≡ earlier o s q r p → b ≡ ltb (rank o r) (rank o s)
   outranks-is {b} s r l m {q} {p} x y e = is-before ∙ same-answer (λ t. ltb-iff .1 (rank-iff s r l m .0 (before-iff o s r .0 t))) (λ t. before-iff o s r .1 (rank-iff s r l m .1 (ltb-iff .0 t)))
     where
       is-before : b ≡ before o s r
       is-before = earlier-is s r x y e
+
+  pub level-first : {b : Bool} (s r : ℕ) → s < sides o → r < sides o → long o r ≡ long o s → b ≡ earlier o s 0 r 0 → b ≡ ltb (rank o r) (rank o s)
+  level-first s r l m z e = outranks-is s r l m refl refl (e ∙ earlier-level o s (long o s) r (long o r) z)
 
 -- the same in plain logic
 pub up : {t : Bool} {a b : ℕ} → t ≡ ltb a b → t ≡ true → a < b

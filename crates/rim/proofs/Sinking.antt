@@ -1,14 +1,18 @@
 -- A side in the first's place, which sinks as the leader of those under it moves up; and what is left without the first. Assumes nothing.
-use mathlib.Core.Path.{_≡_, refl, sym, ap, _∙_}
+use mathlib.Core.Path.{_≡_, refl, sym, ap, subst, _∙_}
+use mathlib.Core.Bool.{Bool, true, false, cond}
 use mathlib.Core.List.{List}
 use Prim.Native.Nat.{ℕ, _+_, _*_, _-_, _<_, _≤_}
 use native.Mathlib.Decide.{ℕ-discrete}
 use native.Mathlib.Omega.{arith}
+use lib.Dec.{ltb}
 use lib.ListN.{length, getD, set, length-set}
 use lib.Seq.{getD-set-other}
 use Rattle.sheet.specs.Office.{Office, sides}
+use Rattle.sheet.specs.Acceptable.{Acceptable}
 use Rattle.rim.specs.Peel.{long}
 use Rattle.rim.specs.Heap.{Heap, Pushed, Sunk, Popped, Joined, Leading, rank, key, above, bit, tally}
+use Rattle.rim.proofs.Ranked.{longer-first, up, not-up}
 use Rattle.rim.proofs.Bag.{tally-none, tally-more, tally-set}
 use Rattle.rim.proofs.Stored.{key-here, key-there, known-set, measured-set}
 
@@ -33,6 +37,18 @@ module _ {o : Office} {queue : List ℕ} {m c : ℕ} where
 
   pub leads-second : c + 1 < m → key o queue c < key o queue (c + 1) → Leading o queue m c (c + 1)
   leads-second l b = leads (c + 1) (omega arith) l (omega arith) (omega arith) (λ h. omega arith)
+
+-- unequal lengths decide
+pub leads-longer : {o : Office} {queue longs : List ℕ} {m c : ℕ} → Acceptable o → Heap o queue longs m → c + 1 < m → (getD longs c 0 ≡ getD longs (c + 1) 0 → ⊥)
+    → {b : Bool} {r : ℕ} → r ≡ cond b 1 0 → b ≡ ltb (getD longs c 0) (getD longs (c + 1) 0) → Leading o queue m c (c + r)
+leads-longer {o} {queue} {longs} {m} {c} a h l f {b} {r} z e = step b z e
+  where
+    goes : (i j : ℕ) → i < m → j < m → getD longs i 0 < getD longs j 0 → key o queue i < key o queue j
+    goes i j x y w = longer-first a (getD queue j 0) (getD queue i 0) (h .known j y) (h .known i x) (let u = h .measured i x in let v = h .measured j y in omega arith)
+
+    step : (b : Bool) → r ≡ cond b 1 0 → b ≡ ltb (getD longs c 0) (getD longs (c + 1) 0) → Leading o queue m c (c + r)
+    step true z e = subst (Leading o queue m c) (omega arith) (leads-second l (goes c (c + 1) (omega arith) l (up e refl)))
+    step false z e = subst (Leading o queue m c) (omega arith) (leads-first l (let u = goes (c + 1) c l (omega arith) (let w : getD longs (c + 1) 0 ≤ getD longs c 0 = not-up e refl in omega (arith, f)) in omega arith))
 
 -- side s is to go to place i or below; what stands at i is of no account, and c is the first place under it
 pub record Sinking (o : Office) (old queue longs : List ℕ) (m s i c : ℕ) : Type 0 where

@@ -44,14 +44,6 @@ abbrev pub told : Office → Option ℕ → Best
 told o none = Nothing
 told o (some s) = Side s (long o s)
 
-abbrev pub side-of : Best → Option ℕ
-side-of Nothing = none
-side-of (Side s q) = some s
-
-abbrev pub place-of : Best → ℕ
-place-of Nothing = 0
-place-of (Side s q) = s
-
 -- marks on the way, and their tally
 pub record State (o : Office) (mate kept rim : List ℕ) (peeled area ring : ℕ) : Type 0 where
   pub held : Held o mate kept rim

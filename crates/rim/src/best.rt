@@ -43,25 +43,13 @@ pub fn ends_of(xs: &[u16], ys: &[u16], corners: &[u16], s: usize) -> Ends
     }
 }
 
-// Whether side s, of squared length long, goes before side r, of squared length other: it is longer; of equal lengths, by the first end, then
-// by the second.
-pub fn goes_before(
-    xs: &[u16],
-    ys: &[u16],
-    corners: &[u16],
-    s: usize,
-    long: u32,
-    r: usize,
-    other: u32,
-) -> bool
+// Of sides s and r of one length, whether s goes before r: by the first end, then by the second.
+pub fn ends_before(xs: &[u16], ys: &[u16], corners: &[u16], s: u16, r: u16) -> bool
     requires { ⌜ Acceptable (office (now xs) (now ys) (now corners)) × (s < length (now corners)) × (r < length (now corners)) ⌝ }
-    ensures { λ b. ⌜ b ≡ earlier (office (now (xs .entry)) (now (ys .entry)) (now (corners .entry))) s long r other ⌝ }
+    ensures { λ b. ⌜ b ≡ earlier (office (now (xs .entry)) (now (ys .entry)) (now (corners .entry))) s 0 r 0 ⌝ }
 {
-    if other != long {
-        return other < long;
-    }
-    let e = ends_of(xs, ys, corners, s);
-    let f = ends_of(xs, ys, corners, r);
+    let e = ends_of(xs, ys, corners, s as usize);
+    let f = ends_of(xs, ys, corners, r as usize);
     if is_sooner(xs, ys, e.first, f.first) {
         return true;
     }

@@ -3,11 +3,12 @@
 // For the layer above: no public call, so a `requires` may stand.
 use crate::answers::Best;
 use crate::answers::Found;
-use crate::best::goes_before;
+use crate::best::ends_before;
 use crate::sides::is_rim;
 use crate::sides::side_squared;
 use sheet::plane::wide;
 ghost use mathlib.Core.Path.{_≡_};
+ghost use mathlib.Core.Bool.{cond};
 ghost use Prim.Native.Nat.{_+_, _*_, _/_, _%_, _<_, _≤_};
 ghost use lib.Dec.{ltb};
 ghost use lib.ListN.{length, getD, take};
@@ -31,7 +32,17 @@ fn outranks(
     requires { ⌜ Acceptable (office (now xs) (now ys) (now corners)) × (s < length (now corners)) × (r < length (now corners)) × (long ≡ peeling.long (office (now xs) (now ys) (now corners)) s) × (other ≡ peeling.long (office (now xs) (now ys) (now corners)) r) ⌝ }
     ensures { λ b. ⌜ b ≡ ltb (rank (office (now (xs .entry)) (now (ys .entry)) (now (corners .entry))) r) (rank (office (now (xs .entry)) (now (ys .entry)) (now (corners .entry))) s) ⌝ }
 {
-    goes_before(xs, ys, corners, s as usize, long, r as usize, other)
+    if other != long {
+        return other < long;
+    }
+    ends_before(xs, ys, corners, s, r)
+}
+
+// 1 for yes, 0 for no: what it is added to needs no branch.
+fn one_if(yes: bool) -> usize
+    ensures { λ r. ⌜ (r ≡ cond yes 1 0) × (r ≤ 1) ⌝ }
+{
+    yes as usize
 }
 
 // Puts side s, of squared length long, to the n that wait.
@@ -83,7 +94,12 @@ pub fn leader(
     if d >= m {
         return c;
     }
-    let later = outranks(xs, ys, corners, queue[d], longs[d], queue[c], longs[c]);
+    let one = longs[c];
+    let two = longs[d];
+    if one != two {
+        return c + one_if(one < two);
+    }
+    let later = ends_before(xs, ys, corners, queue[d], queue[c]);
     if later {
         return d;
     }

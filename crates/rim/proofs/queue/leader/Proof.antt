@@ -1,26 +1,40 @@
 -- `rim::queue::leader` meets its contract. Assumes nothing.
+use mathlib.Core.Path.{refl, sym, _∙_}
 use native.Mathlib.Omega.{arith}
 use borrow.Author.Needs.{needs}
-use Rattle.rim.proofs.Ranked.{up, not-up}
-use Rattle.rim.proofs.Sinking.{leads-alone, leads-first, leads-second}
+use Rattle.rim.proofs.Ranked.{up, not-up, level-first}
+use Rattle.rim.proofs.Sinking.{leads-alone, leads-first, leads-second, leads-longer}
 use Rattle.rim.proofs.queue.leader.Statement.{statement}
 use Rattle.rim.proofs.queue.leader.Tie as tie
 
 returns : tie.Need-returns
 returns c = leads-alone (c .before .before .before .before .pre .1) (omega arith)
 
-outranks-requires : tie.Need-outranks-requires
-outranks-requires c κs =
-    let e = c .before .before .before .before in
-    let p = e .before .before .before .before .pre in
-    let l = e .if1 .left in
-    (p .0, p .3 .known _ l, p .3 .known _ (p .1), p .3 .measured _ l, p .3 .measured _ (p .1))
-
 returns-2 : tie.Need-returns-2
-returns-2 c = leads-second (c .before .before .before .before .before .before .if1 .left) (up (c .before .outranks .ensures) (c .if2 .taken))
+returns-2 c = let e = c .before .before .before .before in let p = e .before .before .before .before .pre in leads-longer (p .0) (p .3) (e .if1 .left) (c .before .if2 .taken) (c .one-if .ensures .0) refl
+
+ends-before-requires : tie.Need-ends-before-requires
+ends-before-requires c κs = let e = c .before .before .before .before .before in let p = e .before .before .before .before .pre in (p .0, p .3 .known _ (e .if1 .left), p .3 .known _ (p .1))
+
+-- two sides of one length
+module _ (c : tie.After-ends-before) where
+  abbrev e : tie.Else1
+  e = c .before .before .before .before .before .before
+
+  abbrev b : tie.Start
+  b = e .before .before .before .before
 
 returns-3 : tie.Need-returns-3
-returns-3 c = leads-first (c .before .before .before .before .before .before .if1 .left) (not-up (c .before .outranks .ensures) (c .if2 .left))
+returns-3 c =
+    let d = c .before in
+    let p = b d .pre in
+    leads-second (e d .if1 .left) (up (level-first (p .0) _ _ (p .3 .known _ (e d .if1 .left)) (p .3 .known _ (p .1)) (sym (p .3 .measured _ (p .1)) ∙ d .before .before .before .if2 .left ∙ p .3 .measured _ (e d .if1 .left)) (d .ends-before .ensures)) (c .if3 .taken))
+
+returns-4 : tie.Need-returns-4
+returns-4 c =
+    let d = c .before in
+    let p = b d .pre in
+    leads-first (e d .if1 .left) (not-up (level-first (p .0) _ _ (p .3 .known _ (e d .if1 .left)) (p .3 .known _ (p .1)) (sym (p .3 .measured _ (p .1)) ∙ d .before .before .before .if2 .left ∙ p .3 .measured _ (e d .if1 .left)) (d .ends-before .ensures)) (c .if3 .left))
 
 pub leader-spec : {M : Type 1} → statement M
 leader-spec =
@@ -32,10 +46,13 @@ leader-spec =
     (λ c. search needs)
     (λ c. search needs)
     (λ c. search needs)
-    (λ c. search needs)
-    (λ c. search needs)
-    (λ c. search needs)
-    (λ c. search needs)
-    outranks-requires
+    (λ c κs. search needs)
+    (λ c. let p = c .before .before .before .before .before .before .before .before .pre in omega (arith, c .one-if .ensures .1, p .1, p .2))
     returns-2
-    returns-3)
+    (λ c. search needs)
+    (λ c. search needs)
+    (λ c. search needs)
+    (λ c. search needs)
+    ends-before-requires
+    returns-3
+    returns-4)
