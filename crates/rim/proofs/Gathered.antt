@@ -11,7 +11,7 @@ use Rattle.laws.specs.First.{count}
 use Rattle.laws.proofs.Test.{false-iff}
 use Rattle.laws.proofs.Counting.{count-last}
 use Rattle.sheet.specs.Office.{Office, sides, office, bare}
-use Rattle.rim.specs.Peel.{mark, rim, removable, rims}
+use Rattle.rim.specs.Peel.{mark, rim, rims}
 use Rattle.rim.specs.Heap.{Heap, Pushed, Queued, bit, tally}
 use Rattle.rim.proofs.Bag.{tally-none, bit-same, bit-split}
 use Rattle.rim.proofs.Marks.{rim-iff, removable-iff}

@@ -1,6 +1,6 @@
 -- The order of sides in one number. Assumes nothing.
 use mathlib.Core.Path.{_≡_, refl, sym, ap, _∙_}
-use mathlib.Core.Logic.{_↔_, _⊎_, inl, inr}
+use mathlib.Core.Logic.{_↔_, inl, inr}
 use mathlib.Core.Bool.{Bool, true, false, cond}
 use Prim.Native.Nat.{ℕ, _+_, _*_, _-_, _<_, _≤_}
 use native.Mathlib.Decide.{decLt}
@@ -9,7 +9,7 @@ use lib.Dec.{ltb}
 use Rattle.laws.proofs.Test.{false-iff, same-answer, ltb-iff}
 use Rattle.laws.proofs.Order.{Lex}
 use Rattle.sheet.specs.Plane.{Point, Small}
-use Rattle.sheet.specs.Office.{Office, points, sides, point, tail, head, next}
+use Rattle.sheet.specs.Office.{Office, sides, point, tail, head, next}
 use Rattle.sheet.specs.Acceptable.{Acceptable}
 use Rattle.sheet.proofs.Side.{next-below}
 use Rattle.rim.specs.Peel.{sooner, long, first-end, second-end, before}

@@ -1,5 +1,5 @@
 -- One place of the queue set anew, and its first place. Assumes nothing.
-use mathlib.Core.Path.{_≡_, ap, _∙_}
+use mathlib.Core.Path.{_≡_, ap}
 use mathlib.Core.List.{List}
 use Prim.Native.Nat.{ℕ, zero, suc, _-_, _/_, _<_, _≤_}
 use native.Mathlib.Decide.{ℕ-discrete}

@@ -20,15 +20,7 @@ ghost use Rattle.rim.specs.Heap.{rank, Heap, Pushed, Sunk, Popped, Joine
 ghost use Rattle.rim.specs.Peel as peeling;
 
 // Whether side s, of squared length long, goes before side r, of squared length other.
-fn outranks(
-    xs: &[u16],
-    ys: &[u16],
-    corners: &[u16],
-    s: u16,
-    long: u32,
-    r: u16,
-    other: u32,
-) -> bool
+fn outranks(xs: &[u16], ys: &[u16], corners: &[u16], s: u16, long: u32, r: u16, other: u32) -> bool
     requires { ⌜ Acceptable (office (now xs) (now ys) (now corners)) × (s < length (now corners)) × (r < length (now corners)) × (long ≡ peeling.long (office (now xs) (now ys) (now corners)) s) × (other ≡ peeling.long (office (now xs) (now ys) (now corners)) r) ⌝ }
     ensures { λ b. ⌜ b ≡ ltb (rank (office (now (xs .entry)) (now (ys .entry)) (now (corners .entry))) r) (rank (office (now (xs .entry)) (now (ys .entry)) (now (corners .entry))) s) ⌝ }
 {

@@ -29,17 +29,7 @@ pub fn step(
     ensures { λ r. ⌜ Stepped (office (now (xs .entry)) (now (ys .entry)) (now (corners .entry))) limit (now (mate .entry)) (now (kept .entry)) (now (rim .entry)) (now (kept .exit)) (now (rim .exit)) (tally .peeled) (r .step) (r .tally .peeled) (r .tally .area) (r .tally .ring) ⌝ }
     ensures { λ r. ⌜ Queued (office (now (xs .entry)) (now (ys .entry)) (now (corners .entry))) (front (now (corners .entry)) (now (kept .exit))) (now (queue .exit)) (now (longs .exit)) (r .waiting) ⌝ }
 {
-    let next = next_side(
-        xs,
-        ys,
-        corners,
-        mate,
-        kept,
-        rim,
-        queue,
-        longs,
-        waiting,
-    );
+    let next = next_side(xs, ys, corners, mate, kept, rim, queue, longs, waiting);
     let n = next.waiting;
     let found = next.side;
     match found {

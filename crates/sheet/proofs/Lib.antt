@@ -12,6 +12,7 @@ pub mod Refusing
 pub mod AtPoint
 pub mod Plots
 pub mod Chain
+pub mod Paired
 pub mod Linear
 pub mod Hull
 pub mod Length

@@ -81,11 +81,19 @@ pub fn mates(corners: &[u16]) -> [u16; 6129]
     let chain = chain_sides(corners);
     let earlier = chain.earlier;
     let latest = chain.latest;
-    let mut mate = [0u16; 6129];
+    let mut mate = [65535u16; 6129];
     let mut s = 0;
     while s < corners.len() {
-        mate[s] = mate_of(corners, &earlier, &latest, s);
+        let here = s;
         s += 1;
+        if mate[here] == 65535 {
+            let r = mate_of(corners, &earlier, &latest, here);
+            mate[here] = r;
+            let m = wide(r);
+            if m < corners.len() {
+                mate[m] = here as u16; // its mate's mate is side `here`
+            }
+        }
     }
     mate
 }

@@ -1,6 +1,5 @@
 -- `rim::queue::push` meets its contract. Assumes nothing.
 use mathlib.Core.Logic.{⊎-elim}
-use borrow.Author.Needs.{needs}
 use native.Mathlib.Omega.{arith}
 use borrow.Author.Tests.{not-true, not-false}
 use Rattle.sheet.specs.Office.{office}
