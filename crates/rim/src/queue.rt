@@ -1,5 +1,5 @@
 // The sides that wait to be peeled: a binary heap of their places, with the squared length of each beside it. The side that goes before all others
-// stands first. At most one waits for each side of the rim, so 1,024 places are enough.
+// stands first. No more wait than the rim has sides, so 1,024 places are enough.
 // For the layer above: no public call, so a `requires` may stand.
 use crate::answers::Best;
 use crate::answers::Found;
