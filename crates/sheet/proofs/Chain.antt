@@ -19,27 +19,27 @@ use Rattle.sheet.specs.Acceptable.{Single}
 use Rattle.sheet.specs.Code.{Numbered, starts, ends, Chained, back-along, Cornered}
 use Rattle.sheet.proofs.Side.{same-triangle}
 
--- the sides below s are chained
-pub record Chaining (corners earlier latest : List ℕ) (s : ℕ) : Type 0 where
+-- the sides below s are chained, in a list of `room` numbers
+pub record Chaining (room : ℕ) (corners earlier latest : List ℕ) (s : ℕ) : Type 0 where
   pub within : s ≤ length corners
-  pub long-earlier : length earlier ≡ 6129
+  pub long-earlier : length earlier ≡ room
   pub long-latest : length latest ≡ 1024
   pub earlier-is : (k : ℕ) → k < s → getD earlier k 0 ≡ final 65535 (starts corners (getD corners k 0)) k
   pub latest-is : (p : ℕ) → p < 1024 → getD latest p 0 ≡ final 65535 (starts corners p) s
 
-pub chains-none : (corners : List ℕ) → Chaining corners (replicate 6129 65535) (replicate 1024 65535) 0
+pub chains-none : (room : ℕ) (corners : List ℕ) → Chaining room corners (replicate room 65535) (replicate 1024 65535) 0
 unfolding final
-chains-none corners = record {
+chains-none room corners = record {
   within = omega arith;
-  long-earlier = length-replicate {A = ℕ} 6129 65535;
+  long-earlier = length-replicate {A = ℕ} room 65535;
   long-latest = length-replicate {A = ℕ} 1024 65535;
   earlier-is = λ k l. absurd (omega arith);
   latest-is = λ p l. getD-replicate {A = ℕ} 1024 p 65535 0 l;
 }
 
-module _ {corners earlier latest : List ℕ} {s : ℕ} (h : Chaining corners earlier latest s) where
-  pub chains-one : (p : ℕ) → p ≡ getD corners s 0 → p < 1024 → s < length corners → length corners ≤ 6129
-      → Chaining corners (set earlier s (getD latest p 0)) (set latest p s) (s + 1)
+module _ {room : ℕ} {corners earlier latest : List ℕ} {s : ℕ} (h : Chaining room corners earlier latest s) where
+  pub chains-one : (p : ℕ) → p ≡ getD corners s 0 → p < 1024 → s < length corners → length corners ≤ room
+      → Chaining room corners (set earlier s (getD latest p 0)) (set latest p s) (s + 1)
   chains-one p e low l short = record {
     within = omega arith;
     long-earlier = length-set earlier s (getD latest p 0) ∙ h .long-earlier;
@@ -60,35 +60,39 @@ module _ {corners earlier latest : List ℕ} {s : ℕ} (h : Chaining corners ear
     latest-is = λ p m. h .latest-is p m ∙ ap (final 65535 (starts corners p)) (let w = h .within in omega arith);
   }
 
--- where going back from `begun` has come to r
-pub record Back (corners : List ℕ) (to begun r : ℕ) : Type 0 where
-  pub left : back-along corners to begun ≡ back-from 65535 (starts corners (getD corners begun 0)) (ends corners to) r
-  pub there : r < 65535 → r < length corners
+-- of the sides from the point where side r starts, up to r, the latest that passes the test
+abbrev pub along : List ℕ → (ℕ → Bool) → ℕ → ℕ
+along corners B r = back-from 65535 (starts corners (getD corners r 0)) B r
+
+-- where going back from `begun`, below n, has come to r
+pub record Back (corners : List ℕ) (n : ℕ) (B : ℕ → Bool) (begun r : ℕ) : Type 0 where
+  pub left : along corners B begun ≡ back-from 65535 (starts corners (getD corners begun 0)) B r
+  pub there : r < 65535 → r < n
   pub from : r < 65535 → starts corners (getD corners begun 0) r ≡ true
 
 -- how far it has still to go
 abbrev pub rank : ℕ → ℕ
 rank r = cond (ltb r 65535) (suc r) 0
 
-module _ {corners : List ℕ} {to begun : ℕ} where
-  pub back-starts : (begun < 65535 → begun < length corners) → Back corners to begun begun
+module _ {corners : List ℕ} {n : ℕ} {B : ℕ → Bool} {begun : ℕ} where
+  pub back-starts : (begun < 65535 → begun < n) → Back corners n B begun begun
   back-starts h = record { left = refl; there = h; from = λ l. eq-eqb (getD corners begun 0) (getD corners begun 0) refl }
 
-  module _ {r : ℕ} (b : Back corners to begun r) where
+  module _ {r : ℕ} (b : Back corners n B begun r) where
     abbrev A : ℕ → Bool
     A = starts corners (getD corners begun 0)
 
-    pub back-found : r < 65535 → getD corners (next r) 0 ≡ to → r ≡ back-along corners to begun
-    back-found l e = sym (b .left ∙ back-here 65535 A (ends corners to) r l (b .from l) (eq-eqb _ _ e))
+    pub back-found : r < 65535 → B r ≡ true → r ≡ along corners B begun
+    back-found l e = sym (b .left ∙ back-here 65535 A B r l (b .from l) e)
 
     same-start : r < 65535 → getD corners r 0 ≡ getD corners begun 0
     same-start l = eqb-true _ _ (b .from l)
 
-    pub back-goes : {r′ : ℕ} → r < 65535 → (getD corners (next r) 0 ≡ to → ⊥) → length corners ≤ 6129 → r′ ≡ final 65535 (starts corners (getD corners r 0)) r → Back corners to begun r′
-    back-goes {r′} l f short e =
+    pub back-goes : {r′ : ℕ} → r < 65535 → B r ≡ false → r′ ≡ final 65535 (starts corners (getD corners r 0)) r → Back corners n B begun r′
+    back-goes {r′} l f e =
         let z : r′ ≡ final 65535 A r = e ∙ ap (λ p. final 65535 (starts corners p) r) (same-start l) in
         record {
-          left = b .left ∙ back-on 65535 A (ends corners to) r l (b .from l) (ne-eqb _ _ f) ∙ ap (back-from 65535 A (ends corners to)) (sym z);
+          left = b .left ∙ back-on 65535 A B r l (b .from l) f ∙ ap (back-from 65535 A B) (sym z);
           there = λ m. (let (i, t) = hit z m in let w = b .there l in omega arith);
           from = λ m. hit z m .1;
         }
@@ -107,11 +111,11 @@ module _ {corners : List ℕ} {to begun : ℕ} where
         step (at i t g) w = rw (lt-ltb r′ 65535 (omega arith)) (omega arith)
         step (nowhere i g) w = rw (le-ltb r′ 65535 (omega arith)) (omega arith)
 
-    pub back-ends : 65535 ≤ r → 65535 ≡ back-along corners to begun
-    back-ends l = sym (b .left ∙ back-none 65535 A (ends corners to) r l)
+    pub back-ends : 65535 ≤ r → 65535 ≡ along corners B begun
+    back-ends l = sym (b .left ∙ back-none 65535 A B r l)
 
 -- going back from the latest side below n that starts at p
-module _ (corners : List ℕ) (p to n begun : ℕ) (is : begun ≡ final 65535 (starts corners p) n) (few : n ≤ 6129) where
+module _ (corners : List ℕ) (p n begun : ℕ) (is : begun ≡ final 65535 (starts corners p) n) (few : n ≤ 6129) where
   pub latest-there : begun < 65535 → begun < n
   latest-there l = step (final-is 65535 (starts corners p) n) is
     where
@@ -119,11 +123,11 @@ module _ (corners : List ℕ) (p to n begun : ℕ) (is : begun ≡ final 65535 (
       step (at i t g) w = omega arith
       step (nowhere i g) w = absurd (omega arith)
 
-  pub latest-back : back-along corners to begun ≡ final 65535 (λ r. starts corners p r && ends corners to r) n
-  latest-back = step (final-is 65535 (starts corners p) n) is ∙ sym (back-begins 65535 (starts corners p) (ends corners to) n (omega arith) ∙ ap (back-from 65535 (starts corners p) (ends corners to)) (sym is))
+  pub latest-back : (B : ℕ → Bool) → along corners B begun ≡ final 65535 (λ r. starts corners p r && B r) n
+  latest-back B = step (final-is 65535 (starts corners p) n) is ∙ sym (back-begins 65535 (starts corners p) B n (omega arith) ∙ ap (back-from 65535 (starts corners p) B) (sym is))
     where
-      step : {f : ℕ} → IsFinal 65535 (starts corners p) n f → begun ≡ f → back-along corners to begun ≡ back-from 65535 (starts corners p) (ends corners to) begun
-      step (at i t g) w = ap (λ q. back-from 65535 (starts corners q) (ends corners to) begun) (ap (λ k. getD corners k 0) w ∙ eqb-true _ _ t)
+      step : {f : ℕ} → IsFinal 65535 (starts corners p) n f → begun ≡ f → along corners B begun ≡ back-from 65535 (starts corners p) B begun
+      step (at i t g) w = ap (λ q. back-from 65535 (starts corners q) B begun) (ap (λ k. getD corners k 0) w ∙ eqb-true _ _ t)
       step (nowhere i g) w = let z : 65535 ≤ begun = omega arith in rw (le-ltb begun 65535 z)
 
 pub mate-back : (corners : List ℕ) (s r : ℕ) → Single (bare corners) → length corners ≤ 6129 → r ≡ final 65535 (reverse (bare corners) s) (length corners)
@@ -144,7 +148,7 @@ module _ (corners : List ℕ) (s r : ℕ) (single : Single (bare corners)) (few 
 module _ (corners : List ℕ) (s begun : ℕ) (l : s < length corners) (few : length corners ≤ 6129) (is : begun ≡ final 65535 (starts corners (getD corners s 0)) s) where
   pub repeated-is : ltb (back-along corners (getD corners (next s) 0) begun) 65535 ≡ any (same-side (bare corners) s) s
   repeated-is =
-      ap (λ r. ltb r 65535) (latest-back corners (getD corners s 0) (getD corners (next s) 0) s begun is (omega arith))
+      ap (λ r. ltb r 65535) (latest-back corners (getD corners s 0) s begun is (omega arith) (ends corners (getD corners (next s) 0)))
       ∙ final-any 65535 (same-side (bare corners) s) s (omega arith)
 
 -- two sides of one triangle do not start alike, so that earlier side stands in an earlier triangle

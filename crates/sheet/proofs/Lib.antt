@@ -13,6 +13,7 @@ pub mod AtPoint
 pub mod Plots
 pub mod Chain
 pub mod Paired
+pub mod Again
 pub mod Linear
 pub mod Hull
 pub mod Length

@@ -2,7 +2,7 @@
 use mathlib.Core.Path.{_≡_}
 use mathlib.Core.Bool.{Bool, cond, _&&_}
 use mathlib.Core.List.{List, []}
-use Prim.Native.Nat.{ℕ, suc, _+_, _*_, _%_, _<_, _≤_}
+use Prim.Native.Nat.{ℕ, suc, _+_, _*_, _/_, _%_, _<_, _≤_}
 use lib.Dec.{ltb, eqb}
 use lib.IntN.{ℤ, pos, _+ℤ_, _-ℤ_, _*ℤ_}
 use lib.ListN.{length, getD, take}
@@ -13,6 +13,13 @@ use Rattle.sheet.specs.Office.{Office, office, bare, points, sides, poin
 -- the points alone
 abbrev pub cloud : List ℕ → List ℕ → Office
 cloud xs ys = office xs ys []
+
+-- a number below 1,024 that goes by the coordinates alone, and those of all points: equal points have the same
+abbrev pub bucket : ℕ → ℕ → ℕ
+bucket x y = (x * 40503 + y * 24593) / 4096 % 1024
+
+abbrev pub buckets : List ℕ → List ℕ → List ℕ
+buckets xs ys = table (λ p. bucket (getD xs p 0) (getD ys p 0)) (length xs)
 
 -- each corner is one of n points
 abbrev pub Numbered : List ℕ → ℕ → Type 0

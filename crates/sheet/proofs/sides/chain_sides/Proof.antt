@@ -8,7 +8,7 @@ use Rattle.sheet.proofs.sides.chain_sides.Statement.{statement}
 use Rattle.sheet.proofs.sides.chain_sides.Tie as tie
 
 abbrev Inv-loop : tie.InvT-loop
-Inv-loop corners earlier₀ latest₀ s₀ earlier latest s = Chaining corners earlier latest s
+Inv-loop corners earlier₀ latest₀ s₀ earlier latest s = Chaining 6129 corners earlier latest s
 
 abbrev μ-loop : tie.MeasureT-loop
 μ-loop corners earlier₀ latest₀ s₀ earlier latest s = length corners - s
@@ -20,7 +20,7 @@ pub chain-sides-spec : {M : Type 1} → statement M
 chain-sides-spec =
     tie.close
     (tie.spec Inv-loop μ-loop
-    (λ c. chains-none _)
+    (λ c. chains-none _ _)
     (λ c. search needs)
     (λ c. search needs)
     (λ c κs. search needs)

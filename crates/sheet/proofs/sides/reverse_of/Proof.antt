@@ -6,7 +6,7 @@ use borrow.Author.Needs.{needs}
 use lib.ListN.{length, getD}
 use Rattle.laws.specs.First.{final}
 use Rattle.sheet.specs.Office.{next}
-use Rattle.sheet.specs.Code.{starts}
+use Rattle.sheet.specs.Code.{starts, ends}
 use Rattle.sheet.proofs.Chain.{latest-there, latest-back}
 use Rattle.sheet.proofs.sides.reverse_of.Statement.{statement}
 use Rattle.sheet.proofs.sides.reverse_of.Tie as tie
@@ -32,5 +32,5 @@ reverse-of-spec =
     (λ c κs. search needs)
     (λ c. search needs)
     (λ c. search needs)
-    (λ c κs. let b = c .before .before .before .before .before .before in ((b .pre .0, b .pre .1, latest-there (b .args .corners .now) (getD (b .args .corners .now) (next (b .args .s)) 0) 0 (length (b .args .corners .now)) (c .before .wide2 .result) (begun-is (c .before)) (b .pre .1)), b .pre .4 .earlier-is))
-    (λ c. let b = c .before .before .before .before .before .before .before in c .run-back .ensures ∙ latest-back (b .args .corners .now) (getD (b .args .corners .now) (next (b .args .s)) 0) (getD (b .args .corners .now) (b .args .s) 0) (length (b .args .corners .now)) (c .before .before .wide2 .result) (begun-is (c .before .before)) (b .pre .1)))
+    (λ c κs. let b = c .before .before .before .before .before .before in ((b .pre .0, b .pre .1, latest-there (b .args .corners .now) (getD (b .args .corners .now) (next (b .args .s)) 0) (length (b .args .corners .now)) (c .before .wide2 .result) (begun-is (c .before)) (b .pre .1)), b .pre .4 .earlier-is))
+    (λ c. let b = c .before .before .before .before .before .before .before in c .run-back .ensures ∙ latest-back (b .args .corners .now) (getD (b .args .corners .now) (next (b .args .s)) 0) (length (b .args .corners .now)) (c .before .before .wide2 .result) (begun-is (c .before .before)) (b .pre .1) (ends (b .args .corners .now) (getD (b .args .corners .now) (b .args .s) 0))))

@@ -2,15 +2,16 @@
 use mathlib.Core.Path.{_≡_, _∙_}
 use native.Mathlib.Omega.{arith}
 use borrow.Author.Needs.{needs}
-use lib.ListN.{getD}
+use lib.ListN.{length, getD}
+use borrow.Author.Tests.{eq-eqb, ne-eqb}
 use Rattle.laws.specs.First.{final}
-use Rattle.sheet.specs.Code.{starts}
+use Rattle.sheet.specs.Code.{starts, ends}
 use Rattle.sheet.proofs.Chain.{Back, rank, back-starts, back-found, back-goes, back-falls, back-ends}
 use Rattle.sheet.proofs.sides.run_back.Statement.{statement}
 use Rattle.sheet.proofs.sides.run_back.Tie as tie
 
 abbrev Inv-loop : tie.InvT-loop
-Inv-loop corners earlier begun to r₀ r = Back corners to begun r
+Inv-loop corners earlier begun to r₀ r = Back corners (length corners) (ends corners to) begun r
 
 abbrev μ-loop : tie.MeasureT-loop
 μ-loop corners earlier begun to r₀ r = rank r
@@ -28,10 +29,10 @@ run-back-spec =
     (λ c. omega (arith, c .loop-test .taken, c .before .loop .inv .there (c .loop-test .taken), c .before .before .before .pre .0 .0, c .before .before .before .pre .0 .1))
     (λ c. omega (arith, c .loop-test .taken, c .before .loop .inv .there (c .loop-test .taken), c .before .before .before .pre .0 .0, c .before .before .before .pre .0 .1))
     (λ c. omega (arith, c .before .loop-test .taken, c .before .before .loop .inv .there (c .before .loop-test .taken), c .before .before .before .before .pre .0 .0, c .before .before .before .before .pre .0 .1))
-    (λ c. back-found (c .before .before .before .loop .inv) (c .before .before .loop-test .taken) (c .if1 .taken))
+    (λ c. back-found (c .before .before .before .loop .inv) (c .before .before .loop-test .taken) (eq-eqb _ _ (c .if1 .taken)))
     (λ c. search needs)
     (λ c. omega (arith, c .before .before .loop-test .taken, c .before .before .before .loop .inv .there (c .before .before .loop-test .taken), c .before .before .before .before .before .pre .0 .0, c .before .before .before .before .before .pre .0 .1))
     (λ c κs. search needs)
     (λ c. back-falls (c .before .before .before .before .before .loop .inv) (c .before .before .before .before .loop-test .taken) (next-is c))
-    (λ c. back-goes (c .before .before .before .before .before .loop .inv) (c .before .before .before .before .loop-test .taken) (c .before .before .if1 .left) (c .before .before .before .before .before .before .before .pre .0 .1) (next-is c))
+    (λ c. back-goes (c .before .before .before .before .before .loop .inv) (c .before .before .before .before .loop-test .taken) (ne-eqb _ _ (c .before .before .if1 .left)) (next-is c))
     (λ c. back-ends (c .before .loop .inv) (c .loop-test .left)))

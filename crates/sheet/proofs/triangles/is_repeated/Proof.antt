@@ -16,7 +16,7 @@ begun-is c = let b = c .before .before .before in c .wide .ensures ∙ b .pre .1
 requires : tie.Need-run-back-requires
 requires c κs =
     let b = c .before .before .before .before in
-    let there = latest-there (b .args .corners .now) (getD (b .args .corners .now) (b .args .s) 0) 0 (b .args .s) (c .before .wide .result) (begun-is (c .before)) (omega (arith, b .pre .0)) in
+    let there = latest-there (b .args .corners .now) (getD (b .args .corners .now) (b .args .s) 0) (b .args .s) (c .before .wide .result) (begun-is (c .before)) (omega (arith, b .pre .0)) in
     ((b .pre .0 .0, b .pre .0 .1, λ l. omega (arith, there l, b .pre .0 .2)), b .pre .1)
 
 returns : tie.Need-returns
