@@ -14,6 +14,7 @@ pub mod Plots
 pub mod Chain
 pub mod Paired
 pub mod Again
+pub mod Pairing
 pub mod Linear
 pub mod Hull
 pub mod Length

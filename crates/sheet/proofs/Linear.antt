@@ -8,6 +8,10 @@ use lib.IntN.{ℤ, pos, natAbs, _+ℤ_, _-ℤ_, _*ℤ_}
 use lib.ListN.{getD, take}
 use lib.Signed.{ltZ}
 use Rattle.laws.specs.First.{table}
+use mir.Syntax.{w64}
+use mir.Val.{toZ, ofZ}
+use mir.Facts.{toZ-ofZ}
+use Rattle.laws.proofs.Exact.{fits}
 use Rattle.laws.proofs.Whole.{size-diff, size-add, size-sub, size-mul}
 use Rattle.laws.proofs.Fill.{table-at}
 use Rattle.laws.proofs.Solve.{Ex, v, k, _:+_, _:-_, _:*_, solve}
@@ -16,6 +20,14 @@ use Rattle.sheet.specs.Office.{Office, points, point, tail, inside}
 use Rattle.sheet.specs.Code.{Plotted, At, height, Coefficients, raised, swept, linear}
 use Rattle.sheet.proofs.AtPoint.{spot-at}
 use Rattle.sheet.proofs.Length.{turn-bound}
+
+-- what a call of a small number gives, in 64 bits, and a sum of three products of such
+pub got : {r z : ℤ} → (r ≡ z) × (natAbs r ≤ 536805378) → toZ w64 (ofZ w64 r) ≡ z
+got {r} h = toZ-ofZ (fits w64 536805378 r r refl (h .1) tt) ∙ h .0
+
+pub weighed : {a u b v c w a′ u′ b′ v′ c′ w′ : ℤ} → a ≡ a′ → u ≡ u′ → b ≡ b′ → v ≡ v′ → c ≡ c′ → w ≡ w′
+    → a *ℤ u +ℤ b *ℤ v +ℤ c *ℤ w ≡ a′ *ℤ u′ +ℤ b′ *ℤ v′ +ℤ c′ *ℤ w′
+weighed e f g h i j = cc
 
 -- a point is the index of its x
 abbrev turnE : ℕ → ℕ → ℕ → Ex

@@ -8,7 +8,7 @@ use lib.IntN.{ℤ, pos, _+ℤ_, _-ℤ_, _*ℤ_}
 use lib.ListN.{length, getD, take}
 use Rattle.laws.specs.First.{first, final, table}
 use Rattle.sheet.specs.Plane.{Point, Small, spot, dx, dy, turn}
-use Rattle.sheet.specs.Office.{Office, office, bare, points, sides, point, tail, head, rim, mate-of}
+use Rattle.sheet.specs.Office.{Office, office, bare, points, sides, point, tail, head, last, rim, mate-of}
 
 -- the points alone
 abbrev pub cloud : List ℕ → List ℕ → Office
@@ -53,6 +53,27 @@ ends corners q r = eqb (head (bare corners) r) q
 pub record Chained (corners : List ℕ) (earlier latest : List ℕ) : Type 0 where
   pub earlier-is : (s : ℕ) → s < length corners → getD earlier s 0 ≡ final 65535 (starts corners (getD corners s 0)) s
   pub latest-is : (p : ℕ) → p < 1024 → getD latest p 0 ≡ final 65535 (starts corners p) (length corners)
+
+-- for each point a side that ends there, or 65,535; so far none starts at p or above
+pub record Noted (corners : List ℕ) (p : ℕ) (noted : List ℕ) : Type 0 where
+  pub long : length noted ≡ 1024
+  pub there : (q : ℕ) → q < 1024 → getD noted q 0 < 65535 → getD noted q 0 < length corners
+  pub ends-there : (q : ℕ) → q < 1024 → getD noted q 0 < 65535 → head (bare corners) (getD noted q 0) ≡ q
+  pub low : (q : ℕ) → q < 1024 → getD noted q 0 < 65535 → tail (bare corners) (getD noted q 0) < p
+
+-- each side from p is noted where it ends
+abbrev pub Placed : List ℕ → ℕ → List ℕ → Type 0
+Placed corners p noted = (s : ℕ) → s < length corners → tail (bare corners) s ≡ p → getD noted (head (bare corners) s) 0 ≡ s
+
+-- the mate of side s stands in the table
+abbrev pub Right : List ℕ → List ℕ → ℕ → Type 0
+Right corners mate s = getD mate s 0 ≡ mate-of corners s
+
+-- right places stay right, and those of the sides that end at p become so
+pub record Righted (corners : List ℕ) (p : ℕ) (old mate : List ℕ) : Type 0 where
+  pub long : length mate ≡ 6129
+  pub keeps : (s : ℕ) → Right corners old s → Right corners mate s
+  pub rights : (s : ℕ) → s < length corners → tail (bare corners) s ≡ p → Right corners mate (last s)
 
 -- of the sides from the point where side r starts, up to r, the latest that ends at q
 abbrev pub back-along : List ℕ → ℕ → ℕ → ℕ

@@ -21,7 +21,7 @@ pub struct Circle {
 }
 
 // a b c of at most 2 · 16,383² each, as weights: no sum is above 3 · (2 · 16,383²)².
-fn weighted(a: i64, u: i64, b: i64, v: i64, c: i64, w: i64) -> i64
+pub fn weighted(a: i64, u: i64, b: i64, v: i64, c: i64, w: i64) -> i64
     requires { ⌜ (natAbs a ≤ 536805378) × (natAbs b ≤ 536805378) × (natAbs c ≤ 536805378) ⌝ }
     requires { ⌜ (natAbs u ≤ 536805378) × (natAbs v ≤ 536805378) × (natAbs w ≤ 536805378) ⌝ }
     ensures { λ r. ⌜ r ≡ a *ℤ u +ℤ b *ℤ v +ℤ c *ℤ w ⌝ }
@@ -44,7 +44,7 @@ fn cross(ax: u16, ay: u16, bx: u16, by: u16) -> i64
 }
 
 // x² + y², at most 2 · 16,383².
-pub fn height_of(x: u16, y: u16) -> u32
+fn height_of(x: u16, y: u16) -> u32
     requires { ⌜ Small (spot x y) ⌝ }
     ensures { λ r. ⌜ (r ≡ x * x + y * y) × (r ≤ 536805378) ⌝ }
 {
@@ -58,7 +58,7 @@ fn raised(x: u16, y: u16) -> i64
     height_of(x, y) as i64
 }
 
-pub fn circle_through(ax: u16, ay: u16, bx: u16, by: u16, cx: u16, cy: u16) -> Circle
+fn circle_through(ax: u16, ay: u16, bx: u16, by: u16, cx: u16, cy: u16) -> Circle
     requires { ⌜ Small (spot ax ay) × Small (spot bx by) × Small (spot cx cy) ⌝ }
     ensures { λ r. ⌜ Coefficients (spot ax ay) (spot bx by) (spot cx cy) (r .across) (r .up) (r .rest) (r .lift) ⌝ }
 {
@@ -85,7 +85,7 @@ pub fn circle_through(ax: u16, ay: u16, bx: u16, by: u16, cx: u16, cy: u16) -> C
 }
 
 // Whether a point lies strictly inside: no sum is above 28 · 16,383⁴.
-pub fn is_inside(k: Circle, x: u16, y: u16, height: u32) -> bool
+fn is_inside(k: Circle, x: u16, y: u16, height: u32) -> bool
     requires { ⌜ (natAbs (k .across) ≤ 26383447523322) × (natAbs (k .up) ≤ 26383447523322) × (natAbs (k .rest) ≤ 864480041549168652) × (natAbs (k .lift) ≤ 536805378) ⌝ }
     requires { ⌜ Small (spot x y) × (height ≤ 536805378) ⌝ }
     ensures { λ r. ⌜ r ≡ ltZ (pos 0) (linear (k .across) (k .up) (k .rest) (k .lift) x y height) ⌝ }

@@ -1,7 +1,5 @@
 -- `sheet::circles::circle_through` meets its contract. Assumes nothing.
-use mathlib.Core.Path.{_≡_, refl, _∙_}
-use Prim.Native.Nat.{_≤_}
-use lib.IntN.{ℤ, natAbs, _+ℤ_, _*ℤ_}
+use mathlib.Core.Path.{_≡_, _∙_}
 use mir.Syntax.{w32, w64}
 use mir.Val.{toZ, ofZ}
 use mir.Facts.{toZ-ofZ}
@@ -9,15 +7,9 @@ use borrow.Author.Needs.{needs}
 use Rattle.laws.proofs.Exact.{fits}
 use Rattle.sheet.specs.Plane.{spot, turn}
 use Rattle.sheet.proofs.Length.{turn-bound}
+use Rattle.sheet.proofs.Linear.{got, weighed}
 use Rattle.sheet.proofs.circles.circle_through.Statement.{statement}
 use Rattle.sheet.proofs.circles.circle_through.Tie as tie
-
-got : {r z : ℤ} → (r ≡ z) × (natAbs r ≤ 536805378) → toZ w64 (ofZ w64 r) ≡ z
-got {r} h = toZ-ofZ (fits w64 536805378 r r refl (h .1) tt) ∙ h .0
-
-weighed : {a u b v c w a′ u′ b′ v′ c′ w′ : ℤ} → a ≡ a′ → u ≡ u′ → b ≡ b′ → v ≡ v′ → c ≡ c′ → w ≡ w′
-    → a *ℤ u +ℤ b *ℤ v +ℤ c *ℤ w ≡ a′ *ℤ u′ +ℤ b′ *ℤ v′ +ℤ c′ *ℤ w′
-weighed e f g h i j = cc
 
 -- the turn, in 32 bits and in 64
 turned : (c : tie.After-turn) → (let s = c .before .before .before .before .before .before .before .before .before .before .before .before .before .before .before .before in toZ w32 (ofZ w32 (c .turn .result)) ≡ turn (spot (s .args .ax) (s .args .ay)) (spot (s .args .bx) (s .args .by)) (spot (s .args .cx) (s .args .cy)))

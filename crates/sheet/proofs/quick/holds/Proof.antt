@@ -1,27 +1,33 @@
--- `sheet::quick::holds` meets its contract: the circle's value by its coefficients. Assumes nothing.
+-- `sheet::quick::holds` meets its contract: the circle's value as it is defined. Assumes nothing.
 use mathlib.Core.Path.{ap, _∙_}
 use lib.IntN.{pos}
 use lib.Signed.{ltZ}
+use mir.Facts.{toZ-ofZ}
 use borrow.Author.Needs.{needs}
-use Rattle.sheet.specs.Plane.{spot}
-use Rattle.sheet.specs.Code.{linear}
-use Rattle.sheet.proofs.Linear.{circle-by, coefficients-fit}
+use Rattle.sheet.specs.Plane.{circle}
+use Rattle.sheet.proofs.Linear.{got, weighed}
 use Rattle.sheet.proofs.quick.holds.Statement.{statement}
 use Rattle.sheet.proofs.quick.holds.Tie as tie
 
-is-inside-requires : tie.Need-is-inside-requires
-is-inside-requires c κs =
-    let s = c .before .before in
-    let f = coefficients-fit (s .pre .0) (s .pre .1) (s .pre .2) (c .before .circle-through .ensures) in
-    ((f .across-fits, f .up-fits, f .rest-fits, f .lift-fits), (s .pre .3, c .height-of .ensures .1))
-
 returns : tie.Need-returns
+unfolding circle
 returns c =
-    let s = c .before .before .before in
-    let k = c .before .before .circle-through .result in
-    c .is-inside .ensures
-    ∙ ap (λ h. ltZ (pos 0) (linear (k .across) (k .up) (k .rest) (k .lift) (s .args .dx) (s .args .dy) h)) (c .before .height-of .ensures .0)
-    ∙ ap (ltZ (pos 0)) (circle-by _ _ _ (spot (s .args .dx) (s .args .dy)) (c .before .before .circle-through .ensures))
+    let e = c .before in
+    let d = e .before in
+    let b = d .before in
+    let a = b .before in
+    let g = a .before in
+    ap (ltZ (pos 0)) (toZ-ofZ (search needs) ∙ c .weighted .ensures ∙ weighed (got (g .before .far .ensures)) (got (g .bend .ensures)) (got (a .far2 .ensures)) (got (b .bend2 .ensures)) (got (d .far3 .ensures)) (got (e .bend3 .ensures)))
 
 pub holds-spec : {M : Type 1} → statement M
-holds-spec = tie.close (tie.spec (λ c κs. search needs) (λ c κs. search needs) is-inside-requires returns)
+holds-spec =
+    tie.close
+    (tie.spec
+    (λ c κs. search needs)
+    (λ c κs. search needs)
+    (λ c κs. search needs)
+    (λ c κs. search needs)
+    (λ c κs. search needs)
+    (λ c κs. search needs)
+    (λ c κs. search needs)
+    returns)
