@@ -3,20 +3,19 @@ use mathlib.Core.Path.{_≡_, refl, sym, ap, ap₂, subst, _∙_}
 use mathlib.Core.Bool.{Bool, true, false, cond, not, _&&_, _||_}
 use mathlib.Core.Logic.{inl, inr}
 use mathlib.Core.List.{List}
-use Prim.Native.Nat.{ℕ, zero, suc, _+_, _*_, _/_, _%_, _<_, _≤_}
+use Prim.Native.Nat.{ℕ, suc, _+_, _*_, _/_, _%_, _<_, _≤_}
 use native.Mathlib.Decide.{ℕ-discrete, decLt}
 use native.Mathlib.Numerals.{add-one}
 use native.Mathlib.Omega.{arith}
-use lib.Dec.{ltb, eqb}
+use lib.Dec.{ltb}
 use lib.ListN.{length, getD, set, replicate, length-set, length-replicate, getD-replicate}
 use lib.Seq.{getD-set-same, getD-set-other}
-use borrow.Author.Tests.{eq-eqb, ne-eqb, eqb-true, lt-ltb, le-ltb, ltb-true}
+use borrow.Author.Tests.{eq-eqb, ne-eqb, eqb-true, lt-ltb, le-ltb}
 use Rattle.laws.specs.First.{final, any}
-use Rattle.laws.proofs.Final.{IsFinal, at, nowhere, final-is, final-hit, final-miss, back-from, back-begins, back-here, back-on, back-none, final-first, final-any}
+use Rattle.laws.proofs.Final.{IsFinal, at, nowhere, final-is, final-hit, final-miss, back-from, back-begins, back-here, back-on, back-none, final-any}
 use Rattle.laws.proofs.Test.{and-iff, any-iff, same-answer}
-use Rattle.sheet.specs.Office.{bare, next, reverse, mate-of, same-side, double, unused}
-use Rattle.sheet.specs.Acceptable.{Single}
-use Rattle.sheet.specs.Code.{Numbered, starts, ends, Chained, back-along, Cornered}
+use Rattle.sheet.specs.Office.{bare, next, same-side, double, unused}
+use Rattle.sheet.specs.Code.{starts, ends, Chained, back-along, Cornered}
 use Rattle.sheet.proofs.Side.{same-triangle}
 
 -- the sides below s are chained, in a list of `room` numbers
@@ -129,20 +128,6 @@ module _ (corners : List ℕ) (p n begun : ℕ) (is : begun ≡ final 65535 (sta
       step : {f : ℕ} → IsFinal 65535 (starts corners p) n f → begun ≡ f → along corners B begun ≡ back-from 65535 (starts corners p) B begun
       step (at i t g) w = ap (λ q. back-from 65535 (starts corners q) B begun) (ap (λ k. getD corners k 0) w ∙ eqb-true _ _ t)
       step (nowhere i g) w = let z : 65535 ≤ begun = omega arith in rw (le-ltb begun 65535 z)
-
-pub mate-back : (corners : List ℕ) (s r : ℕ) → Single (bare corners) → length corners ≤ 6129 → r ≡ final 65535 (reverse (bare corners) s) (length corners)
-    → mate-of corners s ≡ cond (ltb r 65535) r (length corners)
-mate-back corners s r single few e =
-    final-first 65535 (reverse (bare corners) s) (length corners) (omega arith)
-    (λ i j a b x y. let (u, v) = and-iff .0 x in let (w, z) = and-iff .0 y in single i j a b (eqb-true _ _ u ∙ sym (eqb-true _ _ w)) (eqb-true _ _ v ∙ sym (eqb-true _ _ z)))
-    ∙ ap (λ f. cond (ltb f 65535) f (length corners)) (sym e)
-
-module _ (corners : List ℕ) (s r : ℕ) (single : Single (bare corners)) (few : length corners ≤ 6129) (e : r ≡ final 65535 (reverse (bare corners) s) (length corners)) where
-  pub mate-found : r < 65535 → r ≡ mate-of corners s
-  mate-found l = sym (mate-back corners s r single few e ∙ ap (λ b. cond b r (length corners)) (lt-ltb r 65535 l))
-
-  pub mate-lone : 65535 ≤ r → length corners ≡ mate-of corners s
-  mate-lone l = sym (mate-back corners s r single few e ∙ ap (λ b. cond b r (length corners)) (le-ltb r 65535 l))
 
 -- an earlier side that runs as side s does
 module _ (corners : List ℕ) (s begun : ℕ) (l : s < length corners) (few : length corners ≤ 6129) (is : begun ≡ final 65535 (starts corners (getD corners s 0)) s) where

@@ -12,7 +12,6 @@ pub mod Refusing
 pub mod AtPoint
 pub mod Plots
 pub mod Chain
-pub mod Paired
 pub mod Again
 pub mod Pairing
 pub mod Linear

@@ -14,7 +14,7 @@ use mir.Facts.{toZ-ofZ}
 use Rattle.laws.proofs.Exact.{fits}
 use Rattle.laws.proofs.Whole.{size-diff, size-add, size-sub, size-mul}
 use Rattle.laws.proofs.Fill.{table-at}
-use Rattle.laws.proofs.Solve.{Ex, v, k, _:+_, _:-_, _:*_, solve}
+use Rattle.laws.proofs.Solve.{Ex, v, _:+_, _:-_, _:*_, solve}
 use Rattle.sheet.specs.Plane.{Point, Small, spot, dx, dy, turn, squared, circle}
 use Rattle.sheet.specs.Office.{Office, points, point, tail, inside}
 use Rattle.sheet.specs.Code.{Plotted, At, height, Coefficients, raised, swept, linear}

@@ -7,10 +7,10 @@ use Prim.Native.Nat.{ℕ, suc, _+_, _%_, _<_, _≤_}
 use native.Mathlib.Decide.{ℕ-discrete, decLt}
 use native.Mathlib.Omega.{arith}
 use lib.Dec.{ltb, eqb}
-use lib.ListN.{length, getD, set, replicate, take, length-set, length-replicate, getD-replicate}
+use lib.ListN.{length, getD, set, replicate, length-set, length-replicate, getD-replicate}
 use lib.Seq.{getD-set-same, getD-set-other}
 use borrow.Author.Tests.{eq-eqb, eqb-true, lt-ltb, le-ltb, ltb-true}
-use Rattle.laws.specs.First.{first, final, table}
+use Rattle.laws.specs.First.{final}
 use Rattle.laws.proofs.Search.{first-hit, first-none}
 use Rattle.laws.proofs.Final.{IsFinal, at, nowhere, final-is}
 use Rattle.laws.proofs.Fill.{fills-front}
@@ -108,9 +108,9 @@ module _ (corners : List ℕ) (p : ℕ) (few : length corners ≤ 6129) where
         placed = λ s m z k. elim (ℕ-discrete s r) [
           | yes w ↦ same (head (bare corners) s) (ap (head (bare corners)) w ∙ sym is) ∙ sym w
           | no w ↦ (
-          let up : rank r ≤ s = omega (arith, rank-some r l, above s z k w) in
-          let old = h .placed s m z up in
-          other (head (bare corners) s) (λ v. clash s m z (sym (ap (λ i. getD noted i 0) v) ∙ old)) ∙ old)
+              let up : rank r ≤ s = omega (arith, rank-some r l, above s z k w) in
+              let old = h .placed s m z up in
+              other (head (bare corners) s) (λ v. clash s m z (sym (ap (λ i. getD noted i 0) v) ∙ old)) ∙ old)
         ];
         here = λ m. omega (arith, f .there m, h .here l);
         from = f .from;
@@ -141,13 +141,15 @@ module _ (corners : List ℕ) (p : ℕ) (few : length corners ≤ 6129) where
 
   pub notes-all : {noted : List ℕ} {r : ℕ} → Noting corners p noted r → 65535 ≤ r → Noted corners (p + 1) noted × Placed corners p noted
   notes-all {noted} {r} h l =
-      let z = rank-none r l in
-      (record {
-        long = h .long;
-        there = h .there;
-        ends-there = h .ends-there;
-        low = λ q m w. elim (h .low q m w) [ inl a ↦ omega arith | inr a ↦ omega (arith, a .0) ];
-      }, λ s m k. h .placed s m k (omega arith))
+      let z = rank-none r l in (
+        record {
+          long = h .long;
+          there = h .there;
+          ends-there = h .ends-there;
+          low = λ q m w. elim (h .low q m w) [ inl a ↦ omega arith | inr a ↦ omega (arith, a .0) ];
+        },
+        λ s m k. h .placed s m k (omega arith),
+      )
 
 -- where each side from p is noted at its end, the side noted at the start of a side to p runs back along that one
 module _ (corners : List ℕ) (p : ℕ) (noted : List ℕ) (few : length corners ≤ 6129) (all : Numbered corners 1024) (whole : length corners % 3 ≡ 0) (h : Noted corners (p + 1) noted) (g : Placed corners p noted) where
@@ -183,3 +185,97 @@ module _ (corners : List ℕ) (p : ℕ) (noted : List ℕ) (few : length corners
             (λ i w. false-iff .1 (λ t.
             let (x, y) = met i w t in
             true≢false (sym (and-iff .1 (lt-ltb m 65535 (omega arith), eq-eqb _ _ (ap (λ v. getD corners v 0) x ∙ y))) ∙ e))))
+
+-- the sides to p that come from those at or above `rank s` are right
+pub record Righting (corners : List ℕ) (p : ℕ) (old mate : List ℕ) (s : ℕ) : Type 0 where
+  pub long : length mate ≡ 6129
+  pub keeps : (k : ℕ) → Right corners old k → Right corners mate k
+  pub rights : (i : ℕ) → i < length corners → tail (bare corners) i ≡ p → rank s ≤ i → Right corners mate (last i)
+  pub here : s < 65535 → s < length corners
+  pub from : s < 65535 → getD corners s 0 ≡ p
+
+module _ (corners : List ℕ) (p : ℕ) (old : List ℕ) (few : length corners ≤ 6129) where
+  pub rights-none : (s : ℕ) → length old ≡ 6129 → s ≡ final 65535 (starts corners p) (length corners) → Righting corners p old old s
+  rights-none s long e =
+      let f = latest-of corners p (length corners) s few e in
+      record {
+        long = long;
+        keeps = λ k h. h;
+        rights = λ i l z m. absurd (let b = f .above i l z in omega arith);
+        here = f .there;
+        from = f .from;
+      }
+
+  module _ {mate : List ℕ} {s : ℕ} (h : Righting corners p old mate s) (l : s < 65535) where
+    pub next-right : {s′ : ℕ} → s′ ≡ final 65535 (starts corners (getD corners s 0)) s → Latest corners p s s′
+    next-right {s′} e = latest-of corners p s s′ (let b = h .here l in omega arith) (e ∙ ap (λ q. final 65535 (starts corners q) s) (h .from l))
+
+    pub rights-one : (v : ℕ) → v ≡ mate-of corners (last s) → length corners % 3 ≡ 0 → {s′ : ℕ} → Latest corners p s s′ → Righting corners p old (set mate (last s) v) s′
+    rights-one v e whole {s′} f = record {
+      long = length-set mate (last s) v ∙ h .long;
+      keeps = λ k r. kept k (h .keeps k r);
+      rights = λ i m z b. elim (ℕ-discrete i s) [
+        | yes w ↦ subst (λ j. Right corners (set mate (last s) v) (last j)) (sym w) written
+        | no w ↦ kept (last i) (h .rights i m z (elim (decLt i s) [ yes a ↦ absurd (omega (arith, f .above i a z)) | no a ↦ omega (arith, rank-some s l) ]))
+      ];
+      here = λ m. omega (arith, f .there m, h .here l);
+      from = f .from;
+    }
+      where
+        written : Right corners (set mate (last s) v) (last s)
+        written = getD-set-same mate (last s) v 0 (omega (arith, h .long, few, last-below (length corners) s whole (h .here l))) ∙ e
+
+        kept : (k : ℕ) → Right corners mate k → Right corners (set mate (last s) v) k
+        kept k r = elim (ℕ-discrete k (last s)) [
+          | yes w ↦ subst (Right corners (set mate (last s) v)) (sym w) written
+          | no w ↦ getD-set-other mate (last s) k v 0 w ∙ r
+        ]
+
+  pub rights-all : {mate : List ℕ} {s : ℕ} → Righting corners p old mate s → 65535 ≤ s → Righted corners p old mate
+  rights-all {mate} {s} h l = record { long = h .long; keeps = h .keeps; rights = λ i m z. h .rights i m z (omega (arith, rank-none s l)) }
+
+-- the points below p are done
+pub record Paired (corners : List ℕ) (noted mate : List ℕ) (p : ℕ) : Type 0 where
+  pub so-far : Noted corners p noted
+  pub long : length mate ≡ 6129
+  pub right : (s : ℕ) → s < length corners → tail (bare corners) s < p → Right corners mate (last s)
+  pub single : (s r : ℕ) → s < length corners → r < length corners → tail (bare corners) s < p → tail (bare corners) s ≡ tail (bare corners) r → head (bare corners) s ≡ head (bare corners) r → s ≡ r
+
+module _ (corners : List ℕ) where
+  pub pairs-none : (mate : List ℕ) → length mate ≡ 6129 → Paired corners (replicate 1024 65535) mate 0
+  pairs-none mate long = record {
+    so-far = record {
+      long = length-replicate {A = ℕ} 1024 65535;
+      there = λ q l m. absurd (omega (arith, getD-replicate {A = ℕ} 1024 q 65535 0 l));
+      ends-there = λ q l m. absurd (omega (arith, getD-replicate {A = ℕ} 1024 q 65535 0 l));
+      low = λ q l m. absurd (omega (arith, getD-replicate {A = ℕ} 1024 q 65535 0 l));
+    };
+    long = long;
+    right = λ s l m. absurd (omega arith);
+    single = λ s r l m b. absurd (omega arith);
+  }
+
+  pub pairs-one : {old new mate mate′ : List ℕ} {p : ℕ} → Paired corners old mate p → Noted corners (p + 1) new × Placed corners p new → Righted corners p mate mate′ → Paired corners new mate′ (p + 1)
+  pairs-one {old} {new} {mate} {mate′} {p} h n r = record {
+    so-far = n .0;
+    long = r .long;
+    right = λ s l m. elim (ℕ-discrete (tail (bare corners) s) p) [
+      | yes z ↦ r .rights s l z
+      | no z ↦ r .keeps (last s) (h .right s l (omega arith))
+    ];
+    single = λ s i l m b u v. elim (ℕ-discrete (tail (bare corners) s) p) [
+      | yes z ↦ sym (n .1 s l z) ∙ ap (λ q. getD new q 0) v ∙ n .1 i m (sym u ∙ z)
+      | no z ↦ h .single s i l m (omega arith) u v
+    ];
+  }
+
+  pub pairs-all : {noted mate : List ℕ} {p : ℕ} → Paired corners noted mate p → 1024 ≤ p → Numbered corners 1024 → length corners % 3 ≡ 0 → length corners ≤ 6129 → Single (bare corners) × Mated corners mate
+  pairs-all {noted} {mate} {p} h l all whole few = (
+    (λ s r a b u v. h .single s r a b (omega (arith, all s a)) u v),
+    fills-front {i = length corners} (record {
+      within = omega arith;
+      room = few;
+      long = h .long;
+      so-far = λ k m. subst (Right corners mate) (last-next k) (h .right (next k) (next-below (length corners) k whole m) (omega (arith, all (next k) (next-below (length corners) k whole m))));
+    }) (omega arith),
+  )

@@ -1,18 +1,18 @@
 -- What the refusals 1 to 10 leave. Assumes nothing.
 use mathlib.Core.Path.{_≡_, sym}
 use mathlib.Core.List.{List}
-use Prim.Native.Nat.{ℕ, _%_, _<_, _≤_}
+use Prim.Native.Nat.{ℕ, _%_, _≤_}
 use native.Mathlib.Omega.{arith}
 use lib.ListN.{length}
 use Rattle.laws.specs.First.{first}
-use Rattle.laws.proofs.Search.{found-none}
+use Rattle.laws.proofs.Search.{first-none, found-none}
 use Rattle.laws.proofs.Test.{plain}
 use Rattle.laws.proofs.Order.{level}
 use Rattle.sheet.specs.Office.{Office, office, points, sides, triangles, large, again, no-point, flat, double, unused}
 use Rattle.sheet.specs.Acceptable.{Left, Single, Used}
 use Rattle.sheet.specs.Code.{cloud, Plotted, Numbered, Cornered}
 use Rattle.sheet.proofs.Corner.{tail-not-head}
-use Rattle.sheet.proofs.Single.{single-of}
+use Rattle.sheet.proofs.Single.{all-new, single-of}
 
 pub plots : (xs ys corners : List ℕ) (a d n : ℕ) → length xs ≡ length ys → 3 ≤ length xs → length xs ≤ 1024 → length corners % 3 ≡ 0 → length corners ≤ 6129
     → a ≡ first (large (cloud xs ys)) (length xs) → length xs ≤ a → d ≡ first (again (cloud xs ys)) (length xs) → length xs ≤ d → n ≡ first (no-point (office xs xs corners)) (length corners) → length corners ≤ n
@@ -44,6 +44,9 @@ module _ (o : Office) where
 
   pub single-from : sides o % 3 ≡ 0 → Left o → (r : ℕ) → r ≡ first (double o) (triangles o) → triangles o ≤ r → Single o
   single-from whole left r e l = single-of o whole left (λ t b. simp plain at (found-none (double o) (triangles o) r e l t b))
+
+  pub none-double : Single o → triangles o ≤ first (double o) (triangles o)
+  none-double single = omega (arith, first-none (double o) (triangles o) (λ t l. simp plain (all-new o single t l)))
 
   -- and refusal 10
   pub used-from : (r : ℕ) → r ≡ first (unused o) (points o) → points o ≤ r → Used o

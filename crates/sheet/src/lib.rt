@@ -17,7 +17,7 @@ use ring::first_outer;
 use ring::is_one_ring;
 use ring::rim_length;
 use sides::chain_sides;
-use sides::mates;
+use sides::pair_sides;
 use triangles::first_double;
 use triangles::first_flat;
 use triangles::first_no_point;
@@ -30,7 +30,7 @@ ghost use Rattle.sheet.specs.Office.{office};
 ghost use Rattle.sheet.specs.Verdict as Verdict;
 ghost use Rattle.sheet.specs.Verdict.{verdict, points-verdict, areas-verdict, sides-verdict, rim-verdict};
 ghost use Rattle.sheet.specs.Acceptable.{Left, Single, Used};
-ghost use Rattle.sheet.specs.Code.{Plotted};
+ghost use Rattle.sheet.specs.Code.{Plotted, Mated};
 ghost use Rattle.sheet.specs.Answer.{answer};
 
 // Document 01's number for what is wrong, and where.
@@ -120,26 +120,26 @@ fn check_sides(xs: &[u16], ys: &[u16], corners: &[u16]) -> Checked
     let chain = chain_sides(corners);
     let earlier = chain.earlier;
     let latest = chain.latest;
-    let double = first_double(corners, &earlier);
-    if double < corners.len() / 3 {
-        return refused(9, double);
+    let mut mate = [0u16; 6129];
+    let single = pair_sides(corners, &earlier, &latest, &mut mate);
+    if !single {
+        return refused(9, first_double(corners, &earlier));
     }
     let unused = first_unused(corners, &latest, xs.len());
     if unused < xs.len() {
         return refused(10, unused);
     }
-    check_rim(xs, ys, corners)
+    check_rim(xs, ys, corners, &mate)
 }
 
 // Refusals 11 to 13, and acceptance: at once where a look at neighbours is enough.
-fn check_rim(xs: &[u16], ys: &[u16], corners: &[u16]) -> Checked
-    requires { ⌜ Plotted (office (now xs) (now ys) (now corners)) × Left (office (now xs) (now ys) (now corners)) × Single (office (now xs) (now ys) (now corners)) × Used (office (now xs) (now ys) (now corners)) ⌝ }
+fn check_rim(xs: &[u16], ys: &[u16], corners: &[u16], mate: &[u16; 6129]) -> Checked
+    requires { ⌜ Plotted (office (now xs) (now ys) (now corners)) × Left (office (now xs) (now ys) (now corners)) × Single (office (now xs) (now ys) (now corners)) × Used (office (now xs) (now ys) (now corners)) × Mated (now corners) (now mate) ⌝ }
     ensures { λ r. ⌜ answer r ≡ rim-verdict (office (now (xs .entry)) (now (ys .entry)) (now (corners .entry))) ⌝ }
 {
-    let mate = mates(corners);
-    let rim = rim_length(corners, &mate);
-    let one = is_one_ring(corners, &mate, rim);
-    let neat = is_neat(xs, ys, corners, &mate);
+    let rim = rim_length(corners, mate);
+    let one = is_one_ring(corners, mate, rim);
+    let neat = is_neat(xs, ys, corners, mate);
     if one & neat {
         return Checked::Accepted(rim);
     }
@@ -150,7 +150,7 @@ fn check_rim(xs: &[u16], ys: &[u16], corners: &[u16]) -> Checked
     if !one {
         return refused(12, 0);
     }
-    let outer = first_outer(xs, ys, corners, &mate);
+    let outer = first_outer(xs, ys, corners, mate);
     if outer < xs.len() {
         return refused(13, outer);
     }

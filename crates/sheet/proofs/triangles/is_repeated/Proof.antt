@@ -3,7 +3,7 @@ use mathlib.Core.Path.{_≡_, ap, _∙_}
 use native.Mathlib.Omega.{arith}
 use borrow.Author.Needs.{needs}
 use lib.Dec.{ltb}
-use lib.ListN.{length, getD}
+use lib.ListN.{getD}
 use Rattle.laws.specs.First.{final}
 use Rattle.sheet.specs.Code.{starts}
 use Rattle.sheet.proofs.Chain.{latest-there, repeated-is}
