@@ -8,8 +8,7 @@ use native.Mathlib.Decide.{ℕ-discrete}
 use native.Mathlib.Omega.{arith}
 use lib.Dec.{ltb}
 use borrow.Author.Tests.{lt-ltb, le-ltb}
-use Rattle.laws.specs.First.{first, any, final}
-use Rattle.laws.proofs.Search.{first-hit, first-none}
+use Rattle.laws.specs.First.{any, final}
 use Rattle.laws.proofs.Test.{false-iff, same-answer, any-iff}
 
 -- r is the greatest hit below n, or none
@@ -66,15 +65,6 @@ module _ (none : ℕ) (A B : ℕ → Bool) where
 
   pub back-none : (r : ℕ) → none ≤ r → back-from r ≡ none
   back-none r l = rw (le-ltb r none l)
-
--- the greatest hit is the first, where there is one at the most
-pub final-first : (none : ℕ) (test : ℕ → Bool) (n : ℕ) → n ≤ none → ((i j : ℕ) → i < n → j < n → test i ≡ true → test j ≡ true → i ≡ j)
-    → first test n ≡ cond (ltb (final none test n) none) (final none test n) n
-final-first none test n l one = step (final-is none test n)
-  where
-    step : {r : ℕ} → IsFinal none test n r → first test n ≡ cond (ltb r none) r n
-    step {r} (at b h g) = rw (lt-ltb r none (omega arith)) (first-hit test n r b (λ i m. false-iff .1 (λ t. let e = one i r (omega arith) b t h in omega arith)) h)
-    step {r} (nowhere e g) = rw (le-ltb r none (omega arith)) (first-none test n g)
 
 -- there is a hit below n, exactly where the greatest is one
 pub final-any : (none : ℕ) (test : ℕ → Bool) (n : ℕ) → n ≤ none → ltb (final none test n) none ≡ any test n

@@ -14,6 +14,7 @@ pub mod Plots
 pub mod Chain
 pub mod Again
 pub mod Pairing
+pub mod Handed
 pub mod Linear
 pub mod Hull
 pub mod Length

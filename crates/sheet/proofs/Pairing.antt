@@ -7,8 +7,8 @@ use Prim.Native.Nat.{ℕ, suc, _+_, _%_, _<_, _≤_}
 use native.Mathlib.Decide.{ℕ-discrete, decLt}
 use native.Mathlib.Omega.{arith}
 use lib.Dec.{ltb, eqb}
-use lib.ListN.{length, getD, set, replicate, length-set, length-replicate, getD-replicate}
-use lib.Seq.{getD-set-same, getD-set-other}
+use lib.ListN.{length, getD, set, drop, replicate, length-set, length-replicate, getD-replicate}
+use lib.Seq.{getD-set-same, getD-set-other, drop-set-lt}
 use borrow.Author.Tests.{eq-eqb, eqb-true, lt-ltb, le-ltb, ltb-true}
 use Rattle.laws.specs.First.{final}
 use Rattle.laws.proofs.Search.{first-hit, first-none}
@@ -191,6 +191,7 @@ pub record Righting (corners : List ℕ) (p : ℕ) (old mate : List ℕ) (s : �
   pub long : length mate ≡ 6129
   pub keeps : (k : ℕ) → Right corners old k → Right corners mate k
   pub rights : (i : ℕ) → i < length corners → tail (bare corners) i ≡ p → rank s ≤ i → Right corners mate (last i)
+  pub rest : drop (length corners) mate ≡ drop (length corners) old
   pub here : s < 65535 → s < length corners
   pub from : s < 65535 → getD corners s 0 ≡ p
 
@@ -202,6 +203,7 @@ module _ (corners : List ℕ) (p : ℕ) (old : List ℕ) (few : length corners �
         long = long;
         keeps = λ k h. h;
         rights = λ i l z m. absurd (let b = f .above i l z in omega arith);
+        rest = refl;
         here = f .there;
         from = f .from;
       }
@@ -214,6 +216,7 @@ module _ (corners : List ℕ) (p : ℕ) (old : List ℕ) (few : length corners �
     rights-one v e whole {s′} f = record {
       long = length-set mate (last s) v ∙ h .long;
       keeps = λ k r. kept k (h .keeps k r);
+      rest = drop-set-lt (length corners) mate (last s) v (last-below (length corners) s whole (h .here l)) ∙ h .rest;
       rights = λ i m z b. elim (ℕ-discrete i s) [
         | yes w ↦ subst (λ j. Right corners (set mate (last s) v) (last j)) (sym w) written
         | no w ↦ kept (last i) (h .rights i m z (elim (decLt i s) [ yes a ↦ absurd (omega (arith, f .above i a z)) | no a ↦ omega (arith, rank-some s l) ]))
@@ -232,17 +235,18 @@ module _ (corners : List ℕ) (p : ℕ) (old : List ℕ) (few : length corners �
         ]
 
   pub rights-all : {mate : List ℕ} {s : ℕ} → Righting corners p old mate s → 65535 ≤ s → Righted corners p old mate
-  rights-all {mate} {s} h l = record { long = h .long; keeps = h .keeps; rights = λ i m z. h .rights i m z (omega (arith, rank-none s l)) }
+  rights-all {mate} {s} h l = record { long = h .long; keeps = h .keeps; rest = h .rest; rights = λ i m z. h .rights i m z (omega (arith, rank-none s l)) }
 
 -- the points below p are done
-pub record Paired (corners : List ℕ) (noted mate : List ℕ) (p : ℕ) : Type 0 where
+pub record Paired (corners old noted mate : List ℕ) (p : ℕ) : Type 0 where
   pub so-far : Noted corners p noted
   pub long : length mate ≡ 6129
   pub right : (s : ℕ) → s < length corners → tail (bare corners) s < p → Right corners mate (last s)
+  pub rest : drop (length corners) mate ≡ drop (length corners) old
   pub single : (s r : ℕ) → s < length corners → r < length corners → tail (bare corners) s < p → tail (bare corners) s ≡ tail (bare corners) r → head (bare corners) s ≡ head (bare corners) r → s ≡ r
 
 module _ (corners : List ℕ) where
-  pub pairs-none : (mate : List ℕ) → length mate ≡ 6129 → Paired corners (replicate 1024 65535) mate 0
+  pub pairs-none : (mate : List ℕ) → length mate ≡ 6129 → Paired corners mate (replicate 1024 65535) mate 0
   pairs-none mate long = record {
     so-far = record {
       long = length-replicate {A = ℕ} 1024 65535;
@@ -252,13 +256,15 @@ module _ (corners : List ℕ) where
     };
     long = long;
     right = λ s l m. absurd (omega arith);
+    rest = refl;
     single = λ s r l m b. absurd (omega arith);
   }
 
-  pub pairs-one : {old new mate mate′ : List ℕ} {p : ℕ} → Paired corners old mate p → Noted corners (p + 1) new × Placed corners p new → Righted corners p mate mate′ → Paired corners new mate′ (p + 1)
-  pairs-one {old} {new} {mate} {mate′} {p} h n r = record {
+  pub pairs-one : {old before new mate mate′ : List ℕ} {p : ℕ} → Paired corners old before mate p → Noted corners (p + 1) new × Placed corners p new → Righted corners p mate mate′ → Paired corners old new mate′ (p + 1)
+  pairs-one {old} {before} {new} {mate} {mate′} {p} h n r = record {
     so-far = n .0;
     long = r .long;
+    rest = r .rest ∙ h .rest;
     right = λ s l m. elim (ℕ-discrete (tail (bare corners) s) p) [
       | yes z ↦ r .rights s l z
       | no z ↦ r .keeps (last s) (h .right s l (omega arith))
@@ -269,8 +275,8 @@ module _ (corners : List ℕ) where
     ];
   }
 
-  pub pairs-all : {noted mate : List ℕ} {p : ℕ} → Paired corners noted mate p → 1024 ≤ p → Numbered corners 1024 → length corners % 3 ≡ 0 → length corners ≤ 6129 → Single (bare corners) × Mated corners mate
-  pairs-all {noted} {mate} {p} h l all whole few = (
+  pub pairs-all : {old noted mate : List ℕ} {p : ℕ} → Paired corners old noted mate p → 1024 ≤ p → Numbered corners 1024 → length corners % 3 ≡ 0 → length corners ≤ 6129 → Single (bare corners) × Mated corners mate × (drop (length corners) mate ≡ drop (length corners) old)
+  pairs-all {old} {noted} {mate} {p} h l all whole few = (
     (λ s r a b u v. h .single s r a b (omega (arith, all s a)) u v),
     fills-front {i = length corners} (record {
       within = omega arith;
@@ -278,4 +284,5 @@ module _ (corners : List ℕ) where
       long = h .long;
       so-far = λ k m. subst (Right corners mate) (last-next k) (h .right (next k) (next-below (length corners) k whole m) (omega (arith, all (next k) (next-below (length corners) k whole m))));
     }) (omega arith),
+    h .rest,
   )

@@ -5,7 +5,7 @@ use mathlib.Core.List.{List, []}
 use Prim.Native.Nat.{ℕ, suc, _+_, _*_, _/_, _%_, _<_, _≤_}
 use lib.Dec.{ltb, eqb}
 use lib.IntN.{ℤ, pos, _+ℤ_, _-ℤ_, _*ℤ_}
-use lib.ListN.{length, getD, take}
+use lib.ListN.{length, getD, take, drop}
 use Rattle.laws.specs.First.{first, final, table}
 use Rattle.sheet.specs.Plane.{Point, Small, spot, dx, dy, turn}
 use Rattle.sheet.specs.Office.{Office, office, bare, points, sides, point, tail, head, last, rim, mate-of}
@@ -69,11 +69,12 @@ Placed corners p noted = (s : ℕ) → s < length corners → tail (bare corners
 abbrev pub Right : List ℕ → List ℕ → ℕ → Type 0
 Right corners mate s = getD mate s 0 ≡ mate-of corners s
 
--- right places stay right, and those of the sides that end at p become so
+-- right places stay right, those of the sides that end at p become so, and what stands behind all sides stays as it was
 pub record Righted (corners : List ℕ) (p : ℕ) (old mate : List ℕ) : Type 0 where
   pub long : length mate ≡ 6129
   pub keeps : (s : ℕ) → Right corners old s → Right corners mate s
   pub rights : (s : ℕ) → s < length corners → tail (bare corners) s ≡ p → Right corners mate (last s)
+  pub rest : drop (length corners) mate ≡ drop (length corners) old
 
 -- of the sides from the point where side r starts, up to r, the latest that ends at q
 abbrev pub back-along : List ℕ → ℕ → ℕ → ℕ

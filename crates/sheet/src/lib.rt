@@ -31,7 +31,7 @@ ghost use Rattle.sheet.specs.Verdict as Verdict;
 ghost use Rattle.sheet.specs.Verdict.{verdict, points-verdict, areas-verdict, sides-verdict, rim-verdict};
 ghost use Rattle.sheet.specs.Acceptable.{Left, Single, Used};
 ghost use Rattle.sheet.specs.Code.{Plotted, Mated};
-ghost use Rattle.sheet.specs.Answer.{answer};
+ghost use Rattle.sheet.specs.Answer.{answer, handed, Ready};
 
 // Document 01's number for what is wrong, and where.
 pub struct Refusal {
@@ -56,6 +56,44 @@ pub fn check(xs: &[u16], ys: &[u16], corners: &[u16]) -> Checked
 pub fn check_lent(xs: &[u16], ys: &[u16], corners: &[u16], room: bool) -> Checked
     ensures { λ r. ⌜ answer r ≡ verdict room (office (now (xs .entry)) (now (ys .entry)) (now (corners .entry))) ⌝ }
 {
+    let mut made = [0u16; 6129];
+    check_sizes(xs, ys, corners, room, &mut made)
+}
+
+// The same, and for a layer that goes on from there a table of each side's mate, or the number of sides for a rim side, with 0 behind.
+// Where the office is refused, the table is not touched.
+pub fn check_mates(
+    xs: &[u16],
+    ys: &[u16],
+    corners: &[u16],
+    room: bool,
+    mate: &mut [u16; 6129],
+) -> Checked
+    ensures { λ r. ⌜ answer r ≡ verdict room (office (now (xs .entry)) (now (ys .entry)) (now (corners .entry))) ⌝ }
+    ensures { λ r. ⌜ now (mate .exit) ≡ handed (answer r) (now (corners .entry)) (now (mate .entry)) ⌝ }
+{
+    let mut made = [0u16; 6129];
+    match check_sizes(xs, ys, corners, room, &mut made) {
+        Checked::Accepted(rim) => {
+            *mate = made;
+            Checked::Accepted(rim)
+        }
+        Checked::Refused(refusal) => Checked::Refused(refusal),
+    }
+}
+
+// All refusals. Where the office is accepted, `mate` begins with its table of mates.
+fn check_sizes(
+    xs: &[u16],
+    ys: &[u16],
+    corners: &[u16],
+    room: bool,
+    mate: &mut [u16; 6129],
+) -> Checked
+    requires { ⌜ length (now mate) ≡ 6129 ⌝ }
+    ensures { λ r. ⌜ answer r ≡ verdict room (office (now (xs .entry)) (now (ys .entry)) (now (corners .entry))) ⌝ }
+    ensures { λ r. ⌜ Ready (answer r) (now (corners .entry)) (now (mate .entry)) (now (mate .exit)) ⌝ }
+{
     if xs.len() != ys.len() {
         return refused(1, 0);
     }
@@ -68,7 +106,7 @@ pub fn check_lent(xs: &[u16], ys: &[u16], corners: &[u16], room: bool) -> Checke
     if !room {
         return refused(4, 0);
     }
-    check_points(xs, ys, corners)
+    check_points(xs, ys, corners, mate)
 }
 
 fn refused(number: u8, place: usize) -> Checked
@@ -81,9 +119,10 @@ fn refused(number: u8, place: usize) -> Checked
 }
 
 // Refusals 5 to 7, and those after them.
-fn check_points(xs: &[u16], ys: &[u16], corners: &[u16]) -> Checked
-    requires { ⌜ (length (now xs) ≡ length (now ys)) × (3 ≤ length (now xs)) × (length (now xs) ≤ 1024) × (length (now corners) % 3 ≡ 0) × (length (now corners) ≤ 6129) ⌝ }
+fn check_points(xs: &[u16], ys: &[u16], corners: &[u16], mate: &mut [u16; 6129]) -> Checked
+    requires { ⌜ (length (now xs) ≡ length (now ys)) × (3 ≤ length (now xs)) × (length (now xs) ≤ 1024) × (length (now corners) % 3 ≡ 0) × (length (now corners) ≤ 6129) × (length (now mate) ≡ 6129) ⌝ }
     ensures { λ r. ⌜ answer r ≡ points-verdict (office (now (xs .entry)) (now (ys .entry)) (now (corners .entry))) ⌝ }
+    ensures { λ r. ⌜ Ready (answer r) (now (corners .entry)) (now (mate .entry)) (now (mate .exit)) ⌝ }
 {
     let large = first_large(xs, ys);
     if large < xs.len() {
@@ -97,31 +136,32 @@ fn check_points(xs: &[u16], ys: &[u16], corners: &[u16]) -> Checked
     if no_point < corners.len() {
         return refused(7, no_point);
     }
-    check_areas(xs, ys, corners)
+    check_areas(xs, ys, corners, mate)
 }
 
 // Refusal 8, and those after it.
-fn check_areas(xs: &[u16], ys: &[u16], corners: &[u16]) -> Checked
-    requires { ⌜ Plotted (office (now xs) (now ys) (now corners)) ⌝ }
+fn check_areas(xs: &[u16], ys: &[u16], corners: &[u16], mate: &mut [u16; 6129]) -> Checked
+    requires { ⌜ Plotted (office (now xs) (now ys) (now corners)) × (length (now mate) ≡ 6129) ⌝ }
     ensures { λ r. ⌜ answer r ≡ areas-verdict (office (now (xs .entry)) (now (ys .entry)) (now (corners .entry))) ⌝ }
+    ensures { λ r. ⌜ Ready (answer r) (now (corners .entry)) (now (mate .entry)) (now (mate .exit)) ⌝ }
 {
     let flat = first_flat(xs, ys, corners);
     if flat < corners.len() / 3 {
         return refused(8, flat);
     }
-    check_sides(xs, ys, corners)
+    check_sides(xs, ys, corners, mate)
 }
 
 // Refusals 9 and 10, and those after them.
-fn check_sides(xs: &[u16], ys: &[u16], corners: &[u16]) -> Checked
-    requires { ⌜ Plotted (office (now xs) (now ys) (now corners)) × Left (office (now xs) (now ys) (now corners)) ⌝ }
+fn check_sides(xs: &[u16], ys: &[u16], corners: &[u16], mate: &mut [u16; 6129]) -> Checked
+    requires { ⌜ Plotted (office (now xs) (now ys) (now corners)) × Left (office (now xs) (now ys) (now corners)) × (length (now mate) ≡ 6129) ⌝ }
     ensures { λ r. ⌜ answer r ≡ sides-verdict (office (now (xs .entry)) (now (ys .entry)) (now (corners .entry))) ⌝ }
+    ensures { λ r. ⌜ Ready (answer r) (now (corners .entry)) (now (mate .entry)) (now (mate .exit)) ⌝ }
 {
     let chain = chain_sides(corners);
     let earlier = chain.earlier;
     let latest = chain.latest;
-    let mut mate = [0u16; 6129];
-    let single = pair_sides(corners, &earlier, &latest, &mut mate);
+    let single = pair_sides(corners, &earlier, &latest, mate);
     if !single {
         return refused(9, first_double(corners, &earlier));
     }
@@ -129,7 +169,7 @@ fn check_sides(xs: &[u16], ys: &[u16], corners: &[u16]) -> Checked
     if unused < xs.len() {
         return refused(10, unused);
     }
-    check_rim(xs, ys, corners, &mate)
+    check_rim(xs, ys, corners, mate)
 }
 
 // Refusals 11 to 13, and acceptance: at once where a look at neighbours is enough.

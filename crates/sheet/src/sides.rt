@@ -5,7 +5,7 @@ ghost use mathlib.Core.Path.{_≡_};
 ghost use mathlib.Core.Bool.{true, false, cond, _&&_};
 ghost use Prim.Native.Nat.{ℕ, _+_, _%_, _<_, _≤_};
 ghost use lib.Dec.{ltb, eqb};
-ghost use lib.ListN.{length, getD};
+ghost use lib.ListN.{length, getD, drop};
 ghost use Rattle.laws.specs.First.{final};
 ghost use Rattle.sheet.specs.Office.{bare};
 ghost use Rattle.sheet.specs.Acceptable.{Single};
@@ -124,7 +124,8 @@ fn note_mates(
     }
 }
 
-// For each side the one that runs back along it, or the number of sides; false where a directed side occurs twice.
+// For each side the one that runs back along it, or the number of sides, and behind them what stood there; false where a directed side
+// occurs twice.
 pub fn pair_sides(
     corners: &[u16],
     earlier: &[u16; 6129],
@@ -132,7 +133,7 @@ pub fn pair_sides(
     mate: &mut [u16; 6129],
 ) -> bool
     requires { ⌜ (length (now corners) % 3 ≡ 0) × (length (now corners) ≤ 6129) × Numbered (now corners) 1024 × Chained (now corners) (now earlier) (now latest) × (length (now mate) ≡ 6129) ⌝ }
-    ensures { λ b. ⌜ (b ≡ true → Single (bare (now (corners .entry))) × Mated (now (corners .entry)) (now (mate .exit))) × (b ≡ false → Single (bare (now (corners .entry))) → ⊥) ⌝ }
+    ensures { λ b. ⌜ (b ≡ true → Single (bare (now (corners .entry))) × Mated (now (corners .entry)) (now (mate .exit)) × (drop (length (now (corners .entry))) (now (mate .exit)) ≡ drop (length (now (corners .entry))) (now (mate .entry)))) × (b ≡ false → Single (bare (now (corners .entry))) → ⊥) ⌝ }
 {
     let mut noted = [65535u16; 1024];
     let mut p = 0;

@@ -5,7 +5,7 @@ use borrow.Author.Needs.{needs}
 use Rattle.sheet.proofs.sides.mates.Statement.{statement}
 use Rattle.sheet.proofs.sides.mates.Tie as tie
 
-when : {A B C : Type 0} (b : Bool) → (b ≡ true → A × B) × (b ≡ false → C → ⊥) → C → B
+when : {A B C D : Type 0} (b : Bool) → (b ≡ true → A × B × D) × (b ≡ false → C → ⊥) → C → B
 when true h x = h .0 refl .1
 when false h x = absurd (h .1 refl x)
 

@@ -12,7 +12,7 @@ use Rattle.sheet.proofs.sides.pair_sides.Statement.{statement}
 use Rattle.sheet.proofs.sides.pair_sides.Tie as tie
 
 abbrev Inv-loop : tie.InvT-loop
-Inv-loop corners earlier latest mate₀ noted₀ p₀ mate noted p = Paired corners noted mate p
+Inv-loop corners earlier latest mate₀ noted₀ p₀ mate noted p = Paired corners mate₀ noted mate p
 
 abbrev μ-loop : tie.MeasureT-loop
 μ-loop corners earlier latest mate₀ noted₀ p₀ mate noted p = 1024 - p
