@@ -74,9 +74,9 @@ pub fn check_mates(
 {
     let mut made = [0u16; 6129];
     match check_sizes(xs, ys, corners, room, &mut made) {
-        Checked::Accepted(rim) => {
+        Checked::Accepted(hull) => {
             *mate = made;
-            Checked::Accepted(rim)
+            Checked::Accepted(hull)
         }
         Checked::Refused(refusal) => Checked::Refused(refusal),
     }

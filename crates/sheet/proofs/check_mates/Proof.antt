@@ -11,7 +11,7 @@ returns : tie.Need-returns
 returns c =
     let s = c .before .before .before .before .before .before .before .before in
     let made = c .before .before .before .check-sizes .last .1 .1 .1 .1 .0 in
-    (sym (ap answer (c .before .rim .given .1)) ∙ c .before .before .before .check-sizes .ensures .0, hands (s .args .corners .now) made (c .before .rim .given .0 .0) (subst (λ r. Ready (answer r) (s .args .corners .now) (replicate 6129 0) made) (c .before .rim .given .1) (c .before .before .before .check-sizes .ensures .1)))
+    (sym (ap answer (c .before .hull .given .1)) ∙ c .before .before .before .check-sizes .ensures .0, hands (s .args .corners .now) made (c .before .hull .given .0 .0) (subst (λ r. Ready (answer r) (s .args .corners .now) (replicate 6129 0) made) (c .before .hull .given .1) (c .before .before .before .check-sizes .ensures .1)))
 
 returns-2 : tie.Need-returns-2
 returns-2 c = (sym (ap answer (c .before .refusal .given .1)) ∙ c .before .before .before .check-sizes .ensures .0, refl)
