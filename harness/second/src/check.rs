@@ -1,16 +1,16 @@
 //! "What makes a triangulation acceptable", and the refusals 1 to 13 in their order.
 
-use crate::sides::Sides;
+use crate::sides::{after, mates, Table, NONE};
 use crate::{refuse, Office, Refusal, Second, Wrong, GREATEST_COORDINATE, MOST_CORNERS, MOST_POINTS};
 
-/// What an accepted check has found out.
+/// What an accepted check has found out. A side goes by its place in the corner list.
 pub struct Sheet {
-    /// Each directed side's triangle.
-    pub sides: Sides,
-    /// The rim sides, in the order in which they stand in the corner list.
-    pub rim: Vec<(u16, u16)>,
-    /// The doubled area of each triangle.
-    pub areas: Vec<u32>,
+    /// Each side's reverse, `NONE` for a rim side.
+    pub mates: Vec<u16>,
+    /// The rim sides, in rising order.
+    pub rim: Vec<u16>,
+    /// For each point on the rim the next one, `NONE` for the others.
+    pub next: Vec<u16>,
 }
 
 /// One point after another, and the first that a test holds for (or the last, if that is the fault to be shown).
@@ -22,60 +22,107 @@ fn lowest(count: usize, highest: bool, test: impl Fn(usize) -> bool) -> Option<u
     }
 }
 
-/// A triangle's circle with its first corner moved to the origin: a point (x, y) there lies strictly
-/// inside exactly when u x + v y + d (x² + y²) is negative. |u| and |v| are at most 2 × 2^14 × 2^29 and
-/// d at most 2^29, so the sum stays below 2^61.
-struct Circle {
+/// A point of the plane with x² + y².
+#[derive(Clone, Copy)]
+struct Raised {
     x: i64,
     y: i64,
+    squares: i64,
+}
+
+impl Raised {
+    fn at(x: u16, y: u16) -> Raised {
+        let (x, y) = (x as i64, y as i64);
+        Raised { x, y, squares: x * x + y * y }
+    }
+}
+
+/// A triangle's circle: a point lies strictly inside exactly when u x + v y + d (x² + y²) + e is negative. |u| and |v| are at most
+/// 2^44, d and x² + y² at most 2^29, so the first three parts are at most 2^58 each, e three times that, and the sum stays below 2^61.
+struct Circle {
     u: i64,
     v: i64,
     d: i64,
+    e: i64,
 }
 
 impl Circle {
-    fn through(a: (i64, i64), b: (i64, i64), c: (i64, i64)) -> Circle {
-        let (bx, by, cx, cy) = (b.0 - a.0, b.1 - a.1, c.0 - a.0, c.1 - a.1);
-        let (bw, cw) = (bx * bx + by * by, cx * cx + cy * cy);
-        Circle { x: a.0, y: a.1, u: by * cw - bw * cy, v: bw * cx - bx * cw, d: bx * cy - by * cx }
+    fn through(a: Raised, b: Raised, c: Raised) -> Circle {
+        let (bx, by, bw) = (b.x - a.x, b.y - a.y, b.squares - a.squares);
+        let (cx, cy, cw) = (c.x - a.x, c.y - a.y, c.squares - a.squares);
+        let (u, v, d) = (by * cw - bw * cy, bw * cx - bx * cw, bx * cy - by * cx);
+        Circle { u, v, d, e: -(u * a.x + v * a.y + d * a.squares) }
     }
 
     /// Negative inside, zero on the circle, positive outside.
-    fn side_of(&self, p: (i64, i64)) -> i64 {
-        let (x, y) = (p.0 - self.x, p.1 - self.y);
-        self.u * x + self.v * y + self.d * (x * x + y * y)
+    fn side_of(&self, p: Raised) -> i64 {
+        self.u * p.x + self.v * p.y + self.d * p.squares + self.e
     }
 }
 
-/// The directed sides whose reverse is absent.
-fn rim_of(triangles: &[[u16; 3]], sides: &Sides) -> Vec<(u16, u16)> {
-    let all = triangles.iter().flat_map(|&[a, b, c]| [(a, b), (b, c), (c, a)]);
-    all.filter(|&(from, to)| sides.get((to, from)).is_none()).collect()
-}
-
-/// Whether a rim that is one ring never turns right and goes round once. It then bounds a convex piece, which the
-/// triangles, none of them negative, cover once: no point is right of it, and no two triangles overlap. Where the circles of
-/// neighbours are clear besides, all circles are.
-fn turns_left(rim: &[(u16, u16)], points: usize, place: impl Fn(u16) -> (i64, i64)) -> bool {
-    let mut next = vec![0; points];
-    for &(from, to) in rim {
-        next[from as usize] = to;
+impl Office<'_> {
+    fn raised(&self, p: u16) -> Raised {
+        Raised::at(self.xs[p as usize], self.ys[p as usize])
     }
-    let step = |from: u16, to: u16| {
-        let ((ax, ay), (bx, by)) = (place(from), place(to));
-        (bx - ax, by - ay)
-    };
-    let upward = |d: (i64, i64)| d.1 > 0 || (d.1 == 0 && d.0 > 0);
-    let mut rounds = 0;
-    for &(from, to) in rim {
-        let (here, there) = (step(from, to), step(to, next[to as usize]));
-        let turn = here.0 * there.1 - here.1 * there.0;
-        if turn < 0 || (turn == 0 && here.0 * there.0 + here.1 * there.1 < 0) {
-            return false;
+
+    /// The way from one point to another.
+    fn way(&self, from: u16, to: u16) -> (i64, i64) {
+        let x = |p: u16| self.xs[p as usize] as i64;
+        let y = |p: u16| self.ys[p as usize] as i64;
+        (x(to) - x(from), y(to) - y(from))
+    }
+
+    fn triangles(&self) -> impl Iterator<Item = [u16; 3]> + '_ {
+        self.corners.chunks_exact(3).map(|t| [t[0], t[1], t[2]])
+    }
+
+    fn circle(&self, t: usize) -> Circle {
+        let corner = |i: usize| self.raised(self.corners[3 * t + i]);
+        Circle::through(corner(0), corner(1), corner(2))
+    }
+
+    /// A triangle's doubled area, with its sign.
+    pub(crate) fn area(&self, [a, b, c]: [u16; 3]) -> i64 {
+        let (b, c) = (self.way(a, b), self.way(a, c));
+        b.0 * c.1 - b.1 * c.0
+    }
+
+    pub(crate) fn areas(&self) -> impl Iterator<Item = i64> + '_ {
+        self.triangles().map(|t| self.area(t))
+    }
+
+    /// Whether no circle holds the corner across one of its sides, each pair of sides asked once.
+    fn clear_of_neighbours(&self, mates: &[u16]) -> bool {
+        mates.chunks_exact(3).enumerate().all(|(t, across)| {
+            let circle = self.circle(t);
+            across.iter().enumerate().all(|(i, &mate)| {
+                let (side, mate) = (3 * t + i, mate as usize);
+                mate == NONE as usize || mate < side || circle.side_of(self.raised(self.corners[after(after(mate))])) >= 0
+            })
+        })
+    }
+
+    /// Whether a rim that is one ring never turns right and goes round once. It then bounds a convex piece, which the
+    /// triangles, none of them negative, cover once: no point is right of it, and no two triangles overlap. Where the circles of
+    /// neighbours are clear besides, all circles are.
+    fn turns_left(&self, rim: &[u16], next: &[u16]) -> bool {
+        let start = self.corners[rim[0] as usize];
+        let upward = |d: (i64, i64)| d.1 > 0 || (d.1 == 0 && d.0 > 0);
+        let mut at = next[start as usize];
+        let mut here = self.way(start, at);
+        let mut rounds = 0;
+        for _ in rim {
+            let to = next[at as usize];
+            let there = self.way(at, to);
+            let turn = here.0 * there.1 - here.1 * there.0;
+            if turn < 0 || (turn == 0 && here.0 * there.0 + here.1 * there.1 < 0) {
+                return false;
+            }
+            rounds += (!upward(here) && upward(there)) as u32;
+            (at, here) = (to, there);
         }
-        rounds += (!upward(here) && upward(there)) as u32;
+        rounds == 1
     }
-    rounds == 1
 }
 
 impl Second {
@@ -104,7 +151,7 @@ impl Second {
         if let Some(p) = lowest(points, high, |p| xs[p] > GREATEST_COORDINATE || ys[p] > GREATEST_COORDINATE) {
             return refuse(5, p);
         }
-        let mut seen = Sides::with_room(points);
+        let mut seen = Table::with_room(points);
         for p in 0..points {
             if let Some(earlier) = seen.put((xs[p], ys[p]), p as u32) {
                 return refuse(6, if self.is(Wrong::EarlierOfEqualPoints) { earlier as usize } else { p });
@@ -113,21 +160,15 @@ impl Second {
         if let Some(at) = lowest(corners.len(), high, |at| corners[at] as usize >= points) {
             return refuse(7, at);
         }
-
-        let place = |p: u16| (xs[p as usize] as i64, ys[p as usize] as i64);
-        let triangles: Vec<[u16; 3]> = corners.chunks_exact(3).map(|t| [t[0], t[1], t[2]]).collect();
-        let circles: Vec<Circle> = triangles.iter().map(|t| Circle::through(place(t[0]), place(t[1]), place(t[2]))).collect();
-        if let Some(t) = lowest(triangles.len(), high, |t| circles[t].d <= 0) {
+        let triangle = |t: usize| [corners[3 * t], corners[3 * t + 1], corners[3 * t + 2]];
+        let triangles = corners.len() / 3;
+        if let Some(t) = lowest(triangles, high, |t| office.area(triangle(t)) <= 0) {
             return refuse(8, t);
         }
-        let mut sides = Sides::with_room(corners.len());
-        for (t, &[a, b, c]) in triangles.iter().enumerate() {
-            for side in [(a, b), (b, c), (c, a)] {
-                if sides.put(side, t as u32).is_some() {
-                    return refuse(9, t);
-                }
-            }
-        }
+        let mates = match mates(corners) {
+            Ok(mates) => mates,
+            Err(side) => return refuse(9, side / 3),
+        };
         let mut used = vec![false; points];
         for &c in corners {
             used[c as usize] = true;
@@ -136,54 +177,45 @@ impl Second {
             return refuse(10, p);
         }
 
-        let areas = || circles.iter().map(|c| c.d as u32).collect();
-        let rim = rim_of(&triangles, &sides);
-        if self.neighbours_first && room {
-            let across = |from, to| sides.get((to, from)).map(|t| triangles[t as usize]);
-            let clear = triangles.iter().zip(&circles).all(|(&[a, b, c], circle)| {
-                [(a, b), (b, c), (c, a)]
-                    .iter()
-                    .all(|&(from, to)| across(from, to).is_none_or(|other| other.iter().all(|&p| circle.side_of(place(p)) >= 0)))
-            });
-            if clear && self.one_ring(&rim, points) && turns_left(&rim, points, place) {
-                let areas = areas();
-                return Ok(Sheet { sides, rim, areas });
-            }
-        }
+        let rim: Vec<u16> = (0..corners.len() as u16).filter(|&side| mates[side as usize] == NONE).collect();
+        let quick =
+            |next: &[u16]| self.neighbours_first && room && office.clear_of_neighbours(&mates) && office.turns_left(&rim, next);
+        let next = match self.one_ring(office, &rim) {
+            Some(next) if quick(&next) => return Ok(Sheet { mates, rim, next }),
+            next => next,
+        };
 
-        let all: Vec<(i64, i64)> = (0..points as u16).map(place).collect();
-        let outermost = if self.is(Wrong::RefusesOnCircle) { 1 } else { 0 };
+        let all: Vec<Raised> = (0..points as u16).map(|p| office.raised(p)).collect();
         let crossed = |t: usize| {
-            let circle = &circles[t];
+            let circle = office.circle(t);
             if self.is(Wrong::CircleOfNeighboursOnly) {
-                let [a, b, c] = triangles[t];
-                return [(b, a), (c, b), (a, c)].iter().any(|&side| {
-                    sides.get(side).is_some_and(|other| triangles[other as usize].iter().any(|&p| circle.side_of(place(p)) < 0))
+                return (3 * t..3 * t + 3).any(|side| {
+                    let mate = mates[side];
+                    mate != NONE && triangle(mate as usize / 3).iter().any(|&p| circle.side_of(all[p as usize]) < 0)
                 });
             }
-            if outermost > 0 {
-                return (0..points).any(|p| !triangles[t].contains(&(p as u16)) && circle.side_of(all[p]) <= 0);
+            if self.is(Wrong::RefusesOnCircle) {
+                return (0..points).any(|p| !triangle(t).contains(&(p as u16)) && circle.side_of(all[p]) <= 0);
             }
             // Without an early end within a triangle, so that the loop is a plain minimum.
             all.iter().map(|&p| circle.side_of(p)).min().unwrap() < 0
         };
-        if let Some(t) = lowest(triangles.len(), high, crossed) {
+        if let Some(t) = lowest(triangles, high, crossed) {
             return refuse(11, t);
         }
 
-        if !self.one_ring(&rim, points) {
-            return refuse(12, 0);
-        }
+        let Some(next) = next else { return refuse(12, 0) };
 
         // Strictly right of (from, to): the doubled area with it is negative.
         let lines: Vec<(i64, i64, i64)> = rim
             .iter()
-            .map(|&(from, to)| {
-                let ((ax, ay), (bx, by)) = (place(from), place(to));
-                (ay - by, bx - ax, (by - ay) * ax - (bx - ax) * ay)
+            .map(|&side| {
+                let from = corners[side as usize];
+                let (a, way) = (all[from as usize], office.way(from, corners[after(side as usize)]));
+                (-way.1, way.0, way.1 * a.x - way.0 * a.y)
             })
             .collect();
-        let right_of = |p: usize, line: &(i64, i64, i64)| line.0 * all[p].0 + line.1 * all[p].1 + line.2 < 0;
+        let right_of = |p: usize, line: &(i64, i64, i64)| line.0 * all[p].x + line.1 * all[p].y + line.2 < 0;
         if self.is(Wrong::RightOfFirstSide) {
             for line in &lines {
                 if let Some(p) = (0..points).find(|&p| right_of(p, line)) {
@@ -197,31 +229,31 @@ impl Second {
         if !room {
             return refuse(4, 0);
         }
-        let areas = areas();
-        Ok(Sheet { sides, rim, areas })
+        Ok(Sheet { mates, rim, next })
     }
 
-    /// Whether the rim sides form one closed ring that visits each of its points once.
-    fn one_ring(&self, rim: &[(u16, u16)], points: usize) -> bool {
-        let mut next = vec![None; points];
-        for &(from, to) in rim {
-            if next[from as usize].is_some() && !self.is(Wrong::TakesPinchedRim) {
-                return false;
+    /// Each rim point's next one, if the rim sides form one closed ring that visits each of its points once.
+    fn one_ring(&self, office: Office, rim: &[u16]) -> Option<Vec<u16>> {
+        let mut next = vec![NONE; office.xs.len()];
+        for &side in rim {
+            let from = office.corners[side as usize] as usize;
+            if next[from] != NONE && !self.is(Wrong::TakesPinchedRim) {
+                return None;
             }
-            next[from as usize] = Some(to);
+            next[from] = office.corners[after(side as usize)];
         }
+        let start = office.corners[*rim.first()? as usize];
         if self.is(Wrong::TakesPinchedRim) {
-            return !rim.is_empty();
+            return Some(next);
         }
-        let Some(&(start, first)) = rim.first() else { return false };
-        let (mut at, mut walked) = (first, 1);
+        let (mut at, mut walked) = (next[start as usize], 1);
         // Each point has one way out, so a walk that comes back to its start has visited none twice.
         while at != start {
-            match next[at as usize] {
-                Some(to) if walked < rim.len() => (at, walked) = (to, walked + 1),
-                _ => return false,
+            if at == NONE || walked == rim.len() {
+                return None;
             }
+            (at, walked) = (next[at as usize], walked + 1);
         }
-        walked == rim.len()
+        (walked == rim.len()).then_some(next)
     }
 }

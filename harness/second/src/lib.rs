@@ -1,6 +1,6 @@
 //! The second program: documents 01 and 02 once more, written from the documents alone, to be compared with
-//! the library. It is built differently on purpose: a hash table of directed sides, an ordered
-//! queue of rim sides, coordinates taken apart bit by bit.
+//! the library. It is built differently on purpose: a side table made by hashing, an ordered queue of
+//! rim sides, coordinates taken apart bit by bit.
 //!
 //! `Second::right()` follows the document. `Second::wrong(..)` departs from it in one way, so that the
 //! comparison can show that it notices.

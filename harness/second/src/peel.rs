@@ -1,18 +1,22 @@
 //! Peeling: draw, outline and list.
 
 use crate::check::Sheet;
+use crate::sides::{after, NONE};
 use crate::{Lent, Lists, Office, Refusal, Second, Tally, Wrong};
 use std::cmp::Ordering;
 use std::collections::BinaryHeap;
+use std::iter::successors;
 
-/// A rim side that waits in the queue. The greatest squared length stands first, of equal ones the side whose first end
+/// A removable rim side that waits in the queue. The greatest squared length stands first, of equal ones the side whose first end
 /// has the smaller x, then the smaller y, and then whose second end has. Of a side's ends the one with smaller x, then smaller y, is the first.
 #[derive(PartialEq, Eq)]
 struct Waiting {
     squared: u32,
-    ties: [(u16, u16); 2],
-    from: u16,
-    to: u16,
+    side: u16,
+    /// The corner that the peel lays bare.
+    third: u16,
+    /// x and y of the first end, then of the second.
+    ties: u64,
 }
 
 impl Ord for Waiting {
@@ -32,18 +36,16 @@ struct Peel {
     squared: u32,
 }
 
-/// A peeling under way.
+/// A peeling under way. A side goes by its place in the corner list.
 pub(crate) struct Peeling<'a> {
     rules: Second,
     office: Office<'a>,
     sheet: Sheet,
     kept: Vec<bool>,
     on_rim: Vec<bool>,
-    /// The rim's next point, for points on the rim.
-    next: Vec<u16>,
     queue: BinaryHeap<Waiting>,
     /// How many kept triangles have the point as a corner.
-    fan: Vec<u32>,
+    fan: Vec<u16>,
     pub tally: Tally,
 }
 
@@ -54,92 +56,100 @@ impl<'a> Peeling<'a> {
         for &c in office.corners {
             fan[c as usize] += 1;
         }
+        let on_rim: Vec<bool> = sheet.next.iter().map(|&next| next != NONE).collect();
         let mut peeling = Peeling {
             rules,
             office,
-            kept: vec![true; sheet.areas.len()],
-            on_rim: vec![false; points],
-            next: vec![0; points],
-            queue: BinaryHeap::with_capacity(2 * points),
+            kept: vec![true; office.corners.len() / 3],
+            on_rim,
+            queue: BinaryHeap::new(),
             fan,
-            tally: Tally { peeled: 0, area: sheet.areas.iter().sum(), ring: sheet.rim.len() },
+            tally: Tally { peeled: 0, area: office.areas().sum::<i64>() as u32, ring: sheet.rim.len() },
             sheet,
         };
-        for i in 0..peeling.sheet.rim.len() {
-            let (from, to) = peeling.sheet.rim[i];
-            peeling.lay(from, to);
-        }
+        // A step takes one side out and puts two in at most, and each puts a point on the rim.
+        let mut waiting = Vec::with_capacity(points);
+        waiting.extend(peeling.sheet.rim.iter().filter_map(|&side| peeling.waiting(side)));
+        peeling.queue = BinaryHeap::from(waiting);
         peeling
     }
 
-    /// Puts a side on the rim.
-    fn lay(&mut self, from: u16, to: u16) {
-        self.on_rim[from as usize] = true;
-        self.next[from as usize] = to;
-        let across = self.office.xs[from as usize].abs_diff(self.office.xs[to as usize]) as u32;
-        let up = self.office.ys[from as usize].abs_diff(self.office.ys[to as usize]) as u32;
+    /// What stands in the queue for a rim side, if it is removable. Points never leave the rim, so one that is not never will be.
+    fn waiting(&self, side: u16) -> Option<Waiting> {
+        let to = after(side as usize);
+        let (from, to, third) = (self.office.corners[side as usize], self.office.corners[to], self.office.corners[after(to)]);
+        if self.on_rim[third as usize] && !self.rules.is(Wrong::StopsAtLongSide) {
+            return None;
+        }
         let at = |p: u16| (self.office.xs[p as usize], self.office.ys[p as usize]);
+        let (a, b) = (at(from), at(to));
+        let (across, up) = (a.0.abs_diff(b.0) as u32, a.1.abs_diff(b.1) as u32);
+        let key = |p: (u16, u16)| (p.0 as u64) << 16 | p.1 as u64;
+        let (a, b) = (key(a), key(b));
         let ties = if self.rules.is(Wrong::NoTieOrder) {
-            [(self.sheet.sides.get((from, to)).unwrap_or(0) as u16, from); 2]
+            key((side / 3, from))
         } else if self.rules.is(Wrong::DirectedTieOrder) {
-            [at(from), at(to)]
+            a << 32 | b
         } else if self.rules.is(Wrong::TiesByNumbers) {
-            [(from.min(to), from.max(to)); 2]
+            key((from.min(to), from.max(to)))
         } else {
-            [at(from).min(at(to)), at(from).max(at(to))]
+            a.min(b) << 32 | a.max(b)
         };
-        self.queue.push(Waiting { squared: across * across + up * up, ties, from, to });
+        Some(Waiting { squared: across * across + up * up, side, third, ties })
+    }
+
+    /// Puts the reverse of a dropped triangle's side on the rim.
+    fn lay(&mut self, dropped: usize) {
+        let side = self.sheet.mates[dropped];
+        // Where a corner was forgotten there may be none.
+        if side != NONE {
+            let from = self.office.corners[side as usize] as usize;
+            self.on_rim[from] = true;
+            self.sheet.next[from] = self.office.corners[dropped];
+            if let Some(waiting) = self.waiting(side) {
+                self.queue.push(waiting);
+            }
+        }
     }
 
     /// Peels the first removable side longer than the limit, if there is one.
     fn step(&mut self, limit: u32) -> Result<Option<Peel>, Refusal> {
-        while let Some(&Waiting { squared, from, to, .. }) = self.queue.peek() {
-            let triangle = self.sheet.sides.get((from, to)).unwrap() as usize;
-            let corners = &self.office.corners[3 * triangle..3 * triangle + 3];
-            let third = *corners.iter().find(|&&c| c != from && c != to).unwrap();
+        while let Some(&Waiting { squared, side, third, .. }) = self.queue.peek() {
             let above = squared > limit || (squared == limit && self.rules.is(Wrong::AtLeastTheLimit));
             if self.on_rim[third as usize] {
                 if above && self.rules.is(Wrong::StopsAtLongSide) {
                     return Ok(None);
                 }
-                // Points never leave the rim, so this side stays as long as the rim does.
                 self.queue.pop();
                 continue;
             }
             if !above || self.rules.is(Wrong::HullAtOnce) {
                 return Ok(None);
             }
+            self.queue.pop();
             if self.rules.is(Wrong::PeelsOnce) && self.tally.peeled > 0 {
-                self.queue.pop();
                 self.tally.peeled += 1;
                 self.tally.ring += 1;
                 return Ok(Some(Peel { squared }));
             }
-            for p in [from, to, third] {
+            let (second, last) = (after(side as usize), after(after(side as usize)));
+            let triangle = [side as usize, second, last].map(|place| self.office.corners[place]);
+            for p in triangle {
                 if self.fan[p as usize] == 1 && self.rules.wrong.is_none() {
                     return Err(Refusal { number: 14, place: p as usize });
                 }
-            }
-            self.queue.pop();
-            self.kept[triangle] = false;
-            for p in [from, to, third] {
                 self.fan[p as usize] = self.fan[p as usize].saturating_sub(1);
             }
+            self.kept[side as usize / 3] = false;
+            self.lay(last);
+            self.lay(second);
             if self.rules.is(Wrong::ForgetsBaredCorner) {
-                for (a, b) in [(from, third), (third, to)] {
-                    if self.sheet.sides.get((a, b)).is_some() {
-                        self.lay(a, b);
-                    }
-                }
                 self.on_rim[third as usize] = false;
-            } else {
-                self.lay(from, third);
-                self.lay(third, to);
             }
             self.tally.peeled += 1;
             self.tally.ring += 1;
             if !self.rules.is(Wrong::AreaOfHull) {
-                self.tally.area -= self.sheet.areas[triangle];
+                self.tally.area -= self.office.area(triangle) as u32;
             }
             return Ok(Some(Peel { squared }));
         }
@@ -147,19 +157,14 @@ impl<'a> Peeling<'a> {
     }
 
     /// The outline: point numbers, counterclockwise, from the lowest.
-    pub fn ring(&self) -> Vec<u16> {
+    pub fn ring(&self) -> impl Iterator<Item = u16> + '_ {
         let lowest = if self.rules.is(Wrong::RingFromAnywhere) {
-            self.sheet.rim[0].0
+            self.office.corners[self.sheet.rim[0] as usize]
         } else {
             self.on_rim.iter().position(|&on| on).unwrap() as u16
         };
-        let mut ring = vec![lowest];
-        let mut at = self.next[lowest as usize];
-        while at != lowest && ring.len() < self.on_rim.len() {
-            ring.push(at);
-            at = self.next[at as usize];
-        }
-        ring
+        let next = move |&at: &u16| self.sheet.next.get(at as usize).copied().filter(|&to| to != lowest);
+        successors(Some(lowest), next).take(self.on_rim.len())
     }
 
     /// Marks and ring go into the lent buffers; what lies past them stays.
@@ -173,16 +178,10 @@ impl<'a> Peeling<'a> {
         if self.rules.is(Wrong::ClearsRingBuffer) {
             lent.ring.fill(0);
         }
-        let ring = self.ring();
-        lent.ring[..ring.len()].copy_from_slice(&ring);
+        for (place, p) in lent.ring.iter_mut().zip(self.ring()) {
+            *place = p;
+        }
     }
-}
-
-/// An entry of the list, with the outline it stands for where that is asked.
-pub(crate) struct Entry {
-    pub least: u32,
-    pub tally: Tally,
-    pub ring: Vec<u16>,
 }
 
 impl Second {
@@ -211,32 +210,36 @@ impl Second {
         let room =
             Second::room(office, lent) && lists.least.len() >= most && lists.peeled.len() >= most && lists.area.len() >= most;
         let mut peeling = Peeling::start(*self, office, self.sheet(office, room)?);
-        let entries = self.entries(&mut peeling, false)?;
-        for (i, entry) in entries.iter().enumerate().take(most) {
-            lists.least[i] = entry.least;
-            lists.peeled[i] = entry.tally.peeled;
-            lists.area[i] = entry.tally.area;
+        let mut entries = Vec::with_capacity(most);
+        self.entries(&mut peeling, |peeling| peeling.tally, |least, tally| entries.push((least, tally)))?;
+        for (i, (least, tally)) in entries.iter().enumerate().take(most) {
+            lists.least[i] = *least;
+            lists.peeled[i] = tally.peeled;
+            lists.area[i] = tally.area;
         }
         peeling.lend_back(lent);
         Ok(entries.len())
     }
 
-    /// Peels to the end. A state is an entry exactly when the next length is strictly below all earlier
+    /// Peels to the end, with a look at each state. A state is an entry exactly when the next length is strictly below all earlier
     /// ones: it is then what a draw at that length leaves.
-    pub(crate) fn entries(&self, peeling: &mut Peeling, rings: bool) -> Result<Vec<Entry>, Refusal> {
-        let mut entries: Vec<Entry> = Vec::new();
+    pub(crate) fn entries<T>(
+        &self,
+        peeling: &mut Peeling,
+        look: impl Fn(&Peeling) -> T,
+        mut entry: impl FnMut(u32, T),
+    ) -> Result<(), Refusal> {
         let mut shortest = None;
         loop {
-            let tally = peeling.tally;
-            let ring = if rings { peeling.ring() } else { Vec::new() };
+            let state = look(peeling);
             let peel = peeling.step(0)?;
             let least = peel.as_ref().map_or(0, |p| p.squared);
             if shortest.is_none_or(|s| least < s) || self.is(Wrong::ListsEachPeel) {
-                entries.push(Entry { least, tally, ring });
+                entry(least, state);
                 shortest = Some(least);
             }
             if peel.is_none() {
-                return Ok(entries);
+                return Ok(());
             }
         }
     }

@@ -1,5 +1,6 @@
 //! The list printer's text: what it reads and what it prints.
 
+use crate::peel::Peeling;
 use crate::{Office, Refusal, Second, Wrong};
 use std::fmt::Write;
 
@@ -27,14 +28,14 @@ impl Second {
         let xs: Vec<u16> = positions.iter().step_by(2).copied().collect();
         let ys: Vec<u16> = positions.iter().skip(1).step_by(2).copied().collect();
         let mut peeling = self.peeling(Office { xs: &xs, ys: &ys, corners })?;
-        for entry in self.entries(&mut peeling, true)? {
-            write!(lines, "{} {} {}", entry.least, entry.tally.peeled, entry.tally.area).unwrap();
-            for p in entry.ring {
+        let look = |peeling: &Peeling| (peeling.tally, peeling.ring().collect::<Vec<u16>>());
+        self.entries(&mut peeling, look, |least, (tally, ring)| {
+            write!(lines, "{least} {} {}", tally.peeled, tally.area).unwrap();
+            for p in ring {
                 write!(lines, " {p}").unwrap();
             }
             lines.push('\n');
-        }
-        Ok(())
+        })
     }
 
     fn numbers(&self, text: &[u8]) -> Result<Vec<u16>, Refusal> {
