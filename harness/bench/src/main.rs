@@ -2,105 +2,64 @@
 //! prints Markdown tables.
 //!
 //!     bench [--seed S] [--quick] [--itself]
+//!     bench --count SIDE CALL KIND SIZE CALLS [--seed S] [--itself]
 //!
-//! The second program comes twice: as the table says, each point against each circle, and with neighbours first. Calls
-//! alternate between the sides; a figure is the median over all repetitions on all offices of its row. Where GEOS can be
-//! asked (bench/geos.py), its ConcaveHull on the same points stands beside the draw.
+//! The second program comes twice: as documents 01 and 02 say, with a side table and an ordered queue and each point against each
+//! circle; and with the library's way to accept, neighbours first. Where GEOS can be asked (bench/geos.py), its ConcaveHull on the same
+//! points stands beside draw and list. `--count` makes so many calls of one side (library, second, neighbours) and prints nothing:
+//! bench/count runs it where instructions are counted.
+
+mod measure;
+mod worst;
 
 use library::{port_or_exit, Library};
+use measure::{measure, office, printer, Desk, Plan, CALLS};
 use offices::{accepted, Kind, Random, Sheet};
-use second::{Lent, Lists, Office, Second};
+use second::Second;
 use std::hint::black_box;
 use std::io::Write;
-use std::process::{Command, Stdio};
+use std::process::{exit, Command, Stdio};
 
 const SIZES: [usize; 4] = [16, 64, 256, 1_024];
-const CALLS: [&str; 3] = ["check", "draw", "list"];
+const DOUBLING: [usize; 7] = [16, 32, 64, 128, 256, 512, 1_024];
+const GROWING: [Kind; 3] = [Kind::Uniform, Kind::Grid, Kind::AllOnHull];
+const SIDES: [&str; 3] = ["library", "second", "neighbours"];
 
-struct Plan {
-    offices: usize,
-    repetitions: usize,
-}
-
-/// A quarter of the way from the shortest to the longest side, squared: what GEOS makes of the ratio 0.25.
-fn limit(sheet: &Sheet) -> u32 {
-    let lengths = sheet.squared_lengths();
-    let (short, long) = ((lengths[0] as f64).sqrt(), (lengths[lengths.len() - 1] as f64).sqrt());
-    (short + 0.25 * (long - short)).powi(2) as u32
-}
-
-/// One call on lent memory that is made once.
-struct Desk {
-    kept: Vec<u8>,
-    rim: Vec<u8>,
-    ring: Vec<u16>,
-    lists: [Vec<u32>; 3],
-}
-
-impl Desk {
-    fn of(sheet: &Sheet) -> Desk {
-        let points = sheet.points();
-        Desk {
-            kept: vec![0; sheet.triangles()],
-            rim: vec![0; points],
-            ring: vec![0; points],
-            lists: [vec![0; points], vec![0; points], vec![0; points]],
-        }
-    }
-
-    fn call(&mut self, library: &dyn Library, call: usize, sheet: &Sheet, limit: u32) -> usize {
-        let office = Office { xs: &sheet.xs, ys: &sheet.ys, corners: &sheet.corners };
-        let mut lent = Lent { kept: &mut self.kept, rim: &mut self.rim, ring: &mut self.ring };
-        match call {
-            0 => library.check(office).unwrap(),
-            1 => library.draw(office, limit, &mut lent).unwrap().ring,
-            _ => {
-                let [least, peeled, area] = &mut self.lists;
-                library.list(office, &mut lent, &mut Lists { least, peeled, area }).unwrap()
-            }
-        }
+fn figure(value: f64) -> String {
+    match value {
+        v if v < 10.0 => format!("{v:.2}"),
+        v if v < 100.0 => format!("{v:.1}"),
+        v => format!("{v:.0}"),
     }
 }
 
-extern "C" {
-    fn clock_gettime(clock: i32, time: *mut [i64; 2]) -> i32;
-}
-
-/// Seconds of processor time of this thread, so that what else runs on the machine does not count.
-fn now() -> f64 {
-    const THREAD_CPUTIME: i32 = 3;
-    let mut time = [0; 2];
-    assert_eq!(unsafe { clock_gettime(THREAD_CPUTIME, &mut time) }, 0);
-    time[0] as f64 + time[1] as f64 * 1e-9
-}
-
-fn median(mut times: Vec<f64>) -> f64 {
-    times.sort_by(f64::total_cmp);
-    times[times.len() / 2]
-}
-
-/// Microseconds a call takes on each side, by the median.
-fn measure(sides: [&dyn Library; 3], call: usize, sheets: &[Sheet], plan: &Plan) -> [f64; 3] {
-    let mut times = [Vec::new(), Vec::new(), Vec::new()];
-    for sheet in sheets {
-        let (limit, mut desk) = (limit(sheet), Desk::of(sheet));
-        // Short calls are timed many at once, so that the clock does not count.
-        let start = now();
-        for side in sides {
-            black_box(desk.call(side, call, sheet, limit));
-        }
-        let at_once = (200e-6 / (now() - start).max(1e-6)).ceil() as usize;
-        for _ in 0..plan.repetitions {
-            for (side, times) in sides.iter().zip(&mut times) {
-                let start = now();
-                for _ in 0..at_once {
-                    black_box(desk.call(*side, call, black_box(sheet), limit));
-                }
-                times.push((now() - start) * 1e6 / at_once as f64);
-            }
-        }
+/// A Markdown table, all columns but the first to the right.
+fn table(heads: &[String], rows: &[Vec<String>]) {
+    println!("\n| {} |", heads.join(" | "));
+    println!("|---|{}", "---:|".repeat(heads.len() - 1));
+    for row in rows {
+        println!("| {} |", row.join(" | "));
     }
-    times.map(median)
+}
+
+fn heads(first: &str, sizes: &[usize]) -> Vec<String> {
+    [first.to_string()].into_iter().chain(sizes.iter().map(|size| format!("{size} points"))).collect()
+}
+
+/// The kinds that have offices of the least size.
+fn kinds() -> impl Iterator<Item = Kind> {
+    Kind::ALL.into_iter().filter(|kind| kind.most() > SIZES[0])
+}
+
+/// A cell for each size that the kind has room for.
+fn row(name: String, kind: Kind, sizes: &[usize], mut cell: impl FnMut(usize) -> String) -> Vec<String> {
+    let cells = sizes.iter().map(|&size| if size > kind.most() { "-".to_string() } else { cell(size) });
+    [name].into_iter().chain(cells).collect()
+}
+
+fn sheets(kind: Kind, size: usize, seed: u64, count: usize) -> Vec<Sheet> {
+    let mut random = Random::seeded(seed + size as u64);
+    (0..count).map(|_| accepted(kind, size, &mut random)).collect()
 }
 
 /// GEOS's median in microseconds for its ConcaveHull on the points, where Python and GEOS are there.
@@ -123,60 +82,205 @@ fn geos(sheets: &[Sheet]) -> Option<f64> {
     String::from_utf8(output.stdout).ok()?.trim().parse().ok()
 }
 
-fn figure(value: f64) -> String {
-    match value {
-        v if v < 10.0 => format!("{v:.2}"),
-        v if v < 100.0 => format!("{v:.1}"),
-        v => format!("{v:.0}"),
+/// What a run is about.
+struct Bench {
+    library: Box<dyn Library>,
+    seed: u64,
+    plan: Plan,
+}
+
+impl Bench {
+    fn sheets(&self, kind: Kind, size: usize) -> Vec<Sheet> {
+        sheets(kind, size, self.seed, self.plan.offices)
     }
+
+    /// Each call against the second program's two forms, and draw and list against GEOS.
+    fn against_others(&self) {
+        let sides: [&dyn Library; 3] = [&*self.library, &Second::right(), &Second::neighbours_first()];
+        // For each call, kind and size: the microseconds of each side.
+        let all: Vec<Vec<(Kind, usize, [f64; 3])>> = (0..CALLS.len())
+            .map(|call| {
+                let cells = kinds().flat_map(|kind| SIZES.map(|size| (kind, size))).filter(|(kind, size)| *size <= kind.most());
+                cells.map(|(kind, size)| (kind, size, measure(sides, call, &self.sheets(kind, size), true, &self.plan))).collect()
+            })
+            .collect();
+        let time = |call: usize, kind: Kind, size: usize| all[call].iter().find(|c| (c.0, c.1) == (kind, size)).unwrap().2;
+
+        println!("## Against the second program\n");
+        println!("The library's time divided by the second program's, over all kinds of office: least to greatest.");
+        let range = |call: usize, side: usize, size: usize| {
+            let ratios = all[call].iter().filter(|c| c.1 == size).map(|c| c.2[0] / c.2[side]);
+            let (least, most) = ratios.fold((f64::MAX, 0f64), |(least, most), r| (least.min(r), most.max(r)));
+            format!("{} to {}", figure(least), figure(most))
+        };
+        let says = [(1, "each point against each circle"), (2, "neighbours first")];
+        let rows: Vec<Vec<String>> = (0..CALLS.len())
+            .flat_map(|call| says.map(|(side, says)| (call, side, says)))
+            .map(|(call, side, says)| {
+                [format!("{}, {says}", CALLS[call])].into_iter().chain(SIZES.iter().map(|&size| range(call, side, size))).collect()
+            })
+            .collect();
+        table(&heads("call and second program", &SIZES), &rows);
+
+        for (call, name) in CALLS.iter().enumerate() {
+            println!("\n### {name}\n");
+            println!(
+                "Microseconds of the library, and in brackets how many times what the second program takes: each point against each \
+                 circle, then neighbours first."
+            );
+            let cell = |kind: Kind, size: usize| {
+                let [here, full, first] = time(call, kind, size);
+                format!("{} ({}, {})", figure(here), figure(here / full), figure(here / first))
+            };
+            let rows: Vec<Vec<String>> =
+                kinds().map(|kind| row(kind.name().into(), kind, &SIZES, |size| cell(kind, size))).collect();
+            table(&heads("office", &SIZES), &rows);
+        }
+
+        println!("\n## Against GEOS\n");
+        println!(
+            "Microseconds of one ConcaveHull of GEOS at the ratio 0.25, and in brackets what a draw at that limit and a whole list of the \
+             library take, as parts of it. GEOS triangulates besides, the library checks a triangulation (- where GEOS could not be asked)."
+        );
+        let cell = |kind: Kind, size: usize| {
+            let hull = geos(&self.sheets(kind, size));
+            let part = |call: usize, hull: f64| figure(time(call, kind, size)[0] / hull);
+            hull.map_or("-".into(), |hull| format!("{} ({}, {})", figure(hull), part(1, hull), part(2, hull)))
+        };
+        let rows: Vec<Vec<String>> = kinds().map(|kind| row(kind.name().into(), kind, &SIZES, |size| cell(kind, size))).collect();
+        table(&heads("office", &SIZES), &rows);
+    }
+
+    fn growth(&self) {
+        println!("\n## Growth\n");
+        println!("Microseconds of the library, and in brackets nanoseconds divided by n log2 n for n points.");
+        let cell = |call: usize, kind: Kind, size: usize| {
+            let [here] = measure([&*self.library], call, &self.sheets(kind, size), true, &self.plan);
+            let n = size as f64;
+            format!("{} ({})", figure(here), figure(1e3 * here / (n * n.log2())))
+        };
+        let rows: Vec<Vec<String>> = [0, 2]
+            .into_iter()
+            .flat_map(|call| GROWING.map(|kind| (call, kind)))
+            .map(|(call, kind)| row(format!("{}, {}", CALLS[call], kind.name()), kind, &DOUBLING, |size| cell(call, kind, size)))
+            .collect();
+        table(&heads("call and office", &DOUBLING), &rows);
+    }
+
+    /// What a host that sends the worst offices can cost.
+    fn refused(&self) {
+        let points = SIZES[SIZES.len() - 1];
+        println!("\n## The dearest refusals\n");
+        println!(
+            "Microseconds of a check of {points} points, how many times the accepted check of the office in the first line, and in \
+             brackets the same for the second program, neighbours first. The first office is a three-point hull; those with one bucket, \
+             with two points at all sides and with a dent have points of their own."
+        );
+        let sides: [&dyn Library; 2] = [&*self.library, &Second::neighbours_first()];
+        let offices = worst::worst(points, &mut Random::seeded(self.seed));
+        let times = offices.iter().map(|(_, sheet)| {
+            let answer = self.library.check(office(sheet));
+            let [here, there] = measure(sides, 0, std::slice::from_ref(sheet), answer.is_ok(), &self.plan);
+            (answer, here, there)
+        });
+        let times: Vec<_> = times.collect();
+        let (_, first_here, first_there) = times[0];
+        let rows: Vec<Vec<String>> = offices
+            .iter()
+            .zip(&times)
+            .map(|((name, _), (answer, here, there))| {
+                let says = answer.map_or_else(|r| format!("{} [{}]", r.number, r.place), |_| "accepted".into());
+                vec![
+                    name.to_string(),
+                    says,
+                    figure(*here),
+                    format!("{} ({})", figure(here / first_here), figure(there / first_there)),
+                ]
+            })
+            .collect();
+        table(&["office", "answer [place]", "microseconds", "times an accepted check"].map(String::from), &rows);
+    }
+
+    fn printed(&self) {
+        let points = SIZES[SIZES.len() - 1];
+        println!("\n## The list printer\n");
+        println!(
+            "Milliseconds of processor time of the program `outlines` on offices of {points} points, start and text included."
+        );
+        let rows: Vec<Vec<String>> = kinds()
+            .filter(|kind| kind.most() == points)
+            .map(|kind| vec![kind.name().into(), figure(printer(&*self.library, &self.sheets(kind, points), 5))])
+            .collect();
+        table(&["office", "milliseconds"].map(String::from), &rows);
+    }
+}
+
+/// So many calls, to be counted from outside by this function's name.
+#[no_mangle]
+#[inline(never)]
+pub fn counted_calls(desk: &mut Desk, side: &dyn Library, call: usize, calls: usize) {
+    for _ in 0..calls {
+        black_box(black_box(&mut *desk).call(side, call)).unwrap();
+    }
+}
+
+/// What the system calls the processor.
+fn processor() -> String {
+    let text = std::fs::read_to_string("/proc/cpuinfo").unwrap_or_default();
+    let name = text.lines().find(|line| line.starts_with("model name")).and_then(|line| line.split(": ").nth(1));
+    name.unwrap_or("unknown").to_string()
+}
+
+fn usage() -> ! {
+    eprintln!("bench [--seed S] [--quick] [--itself]\nbench --count SIDE CALL KIND SIZE CALLS [--seed S] [--itself]");
+    eprintln!(
+        "  SIDE {}; CALL {}; KIND {}",
+        SIDES.join(", "),
+        CALLS.join(", "),
+        kinds().map(Kind::name).collect::<Vec<_>>().join(", ")
+    );
+    exit(2)
+}
+
+/// `--count`: one call first, so that what a first call alone does is not among the others.
+fn count(words: &[String], library: &dyn Library, seed: u64) {
+    let [side, call, kind, size, calls, ..] = words else { usage() };
+    let place = |names: &[&str], word: &str| names.iter().position(|name| *name == word).unwrap_or_else(|| usage());
+    let number = |word: &str| word.parse::<usize>().unwrap_or_else(|_| usage());
+    let (second, neighbours) = (Second::right(), Second::neighbours_first());
+    let side = [library, &second, &neighbours][place(&SIDES, side)];
+    let call = place(&CALLS, call);
+    let kind = kinds().find(|k| k.name() == kind).unwrap_or_else(|| usage());
+    let sheet = &sheets(kind, number(size), seed, 1)[0];
+    let mut desk = Desk::of(sheet);
+    desk.call(side, call).unwrap();
+    counted_calls(&mut desk, side, call, number(calls));
 }
 
 fn main() {
     let words: Vec<String> = std::env::args().skip(1).collect();
-    let has = |word: &str| words.iter().any(|w| w == word);
-    let seed = words.iter().position(|w| w == "--seed").and_then(|i| words.get(i + 1)?.parse().ok()).unwrap_or(1);
-    let plan = if has("--quick") { Plan { offices: 1, repetitions: 5 } } else { Plan { offices: 5, repetitions: 25 } };
-    let library: Box<dyn Library> = if has("--itself") { Box::new(Second::right()) } else { port_or_exit() };
-    let (second, quick) = (Second::right(), Second::neighbours_first());
-
+    let place = |word: &str| words.iter().position(|w| w == word);
+    let seed = place("--seed").map_or(1, |i| words.get(i + 1).and_then(|w| w.parse().ok()).unwrap_or_else(|| usage()));
+    let itself = place("--itself").is_some();
+    let library: Box<dyn Library> = if itself { Box::new(Second::right()) } else { port_or_exit() };
+    if let Some(i) = place("--count") {
+        return count(&words[i + 1..], &*library, seed);
+    }
+    let quick = place("--quick").is_some();
+    let plan = if quick { Plan { offices: 1, repetitions: 5 } } else { Plan { offices: 5, repetitions: 25 } };
     println!(
-        "Microseconds that a call of the library takes, and in brackets how many times what the second program takes: as the table says, \
-         then with neighbours first. Medians of {} calls on {} offices, seed {seed}.",
+        "Processor: {}. Seed {seed}; a time is the median of {} calls, {} on each of {} offices ({} on the one office of a refusal).\n",
+        processor(),
         plan.repetitions * plan.offices,
-        plan.offices
+        plan.repetitions,
+        plan.offices,
+        plan.repetitions
     );
-    for (call, name) in CALLS.iter().enumerate() {
-        let with_geos = *name == "draw";
-        println!("\n### {name}\n");
-        println!("| office | {} |", SIZES.map(|s| format!("{s} points")).join(" | "));
-        println!("|---|{}", "---:|".repeat(SIZES.len()));
-        let mut rows = Vec::new();
-        for kind in Kind::ALL.into_iter().filter(|kind| kind.most() > SIZES[0]) {
-            let (mut row, mut hulls) = (Vec::new(), Vec::new());
-            for size in SIZES {
-                if size > kind.most() {
-                    row.push("-".to_string());
-                    hulls.push("-".to_string());
-                    continue;
-                }
-                let mut random = Random::seeded(seed + size as u64);
-                let sheets: Vec<Sheet> = (0..plan.offices).map(|_| accepted(kind, size, &mut random)).collect();
-                let [here, full, first] = measure([&*library, &second, &quick], call, &sheets, &plan);
-                row.push(format!("{} ({}, {})", figure(here), figure(here / full), figure(here / first)));
-                if with_geos {
-                    hulls.push(geos(&sheets).map_or("-".to_string(), figure));
-                }
-            }
-            println!("| {} | {} |", kind.name(), row.join(" | "));
-            rows.push((kind, hulls));
-        }
-        if with_geos {
-            println!("\nGEOS's ConcaveHull on the same points at the ratio 0.25, triangulation included (- where it could not be asked):\n");
-            println!("| office | {} |", SIZES.map(|s| format!("{s} points")).join(" | "));
-            println!("|---|{}", "---:|".repeat(SIZES.len()));
-            for (kind, hulls) in rows {
-                println!("| {} | {} |", kind.name(), hulls.join(" | "));
-            }
-        }
+    let bench = Bench { library, seed, plan };
+    bench.against_others();
+    bench.growth();
+    bench.refused();
+    if !itself {
+        bench.printed();
     }
 }

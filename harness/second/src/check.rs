@@ -11,6 +11,8 @@ pub struct Sheet {
     pub rim: Vec<u16>,
     /// For each point on the rim the next one, `NONE` for the others.
     pub next: Vec<u16>,
+    /// The doubled area of each triangle.
+    pub areas: Vec<i32>,
 }
 
 /// One point after another, and the first that a test holds for (or the last, if that is the fault to be shown).
@@ -72,23 +74,18 @@ impl Office<'_> {
         (x(to) - x(from), y(to) - y(from))
     }
 
-    fn triangles(&self) -> impl Iterator<Item = [u16; 3]> + '_ {
-        self.corners.chunks_exact(3).map(|t| [t[0], t[1], t[2]])
-    }
-
     fn circle(&self, t: usize) -> Circle {
         let corner = |i: usize| self.raised(self.corners[3 * t + i]);
         Circle::through(corner(0), corner(1), corner(2))
     }
 
-    /// A triangle's doubled area, with its sign.
-    pub(crate) fn area(&self, [a, b, c]: [u16; 3]) -> i64 {
-        let (b, c) = (self.way(a, b), self.way(a, c));
-        b.0 * c.1 - b.1 * c.0
-    }
-
-    pub(crate) fn areas(&self) -> impl Iterator<Item = i64> + '_ {
-        self.triangles().map(|t| self.area(t))
+    /// The doubled area of each triangle, with its sign.
+    fn areas(&self) -> Vec<i32> {
+        let area = |t: &[u16]| {
+            let (b, c) = (self.way(t[0], t[1]), self.way(t[0], t[2]));
+            (b.0 * c.1 - b.1 * c.0) as i32
+        };
+        self.corners.chunks_exact(3).map(area).collect()
     }
 
     /// Whether no circle holds the corner across one of its sides, each pair of sides asked once.
@@ -160,9 +157,8 @@ impl Second {
         if let Some(at) = lowest(corners.len(), high, |at| corners[at] as usize >= points) {
             return refuse(7, at);
         }
-        let triangle = |t: usize| [corners[3 * t], corners[3 * t + 1], corners[3 * t + 2]];
-        let triangles = corners.len() / 3;
-        if let Some(t) = lowest(triangles, high, |t| office.area(triangle(t)) <= 0) {
+        let areas = office.areas();
+        if let Some(t) = lowest(areas.len(), high, |t| areas[t] <= 0) {
             return refuse(8, t);
         }
         let mates = match mates(corners) {
@@ -181,11 +177,12 @@ impl Second {
         let quick =
             |next: &[u16]| self.neighbours_first && room && office.clear_of_neighbours(&mates) && office.turns_left(&rim, next);
         let next = match self.one_ring(office, &rim) {
-            Some(next) if quick(&next) => return Ok(Sheet { mates, rim, next }),
+            Some(next) if quick(&next) => return Ok(Sheet { mates, rim, next, areas }),
             next => next,
         };
 
         let all: Vec<Raised> = (0..points as u16).map(|p| office.raised(p)).collect();
+        let triangle = |t: usize| &corners[3 * t..3 * t + 3];
         let crossed = |t: usize| {
             let circle = office.circle(t);
             if self.is(Wrong::CircleOfNeighboursOnly) {
@@ -200,7 +197,7 @@ impl Second {
             // Without an early end within a triangle, so that the loop is a plain minimum.
             all.iter().map(|&p| circle.side_of(p)).min().unwrap() < 0
         };
-        if let Some(t) = lowest(triangles, high, crossed) {
+        if let Some(t) = lowest(areas.len(), high, crossed) {
             return refuse(11, t);
         }
 
@@ -229,7 +226,7 @@ impl Second {
         if !room {
             return refuse(4, 0);
         }
-        Ok(Sheet { mates, rim, next })
+        Ok(Sheet { mates, rim, next, areas })
     }
 
     /// Each rim point's next one, if the rim sides form one closed ring that visits each of its points once.

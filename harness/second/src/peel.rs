@@ -64,7 +64,7 @@ impl<'a> Peeling<'a> {
             on_rim,
             queue: BinaryHeap::new(),
             fan,
-            tally: Tally { peeled: 0, area: office.areas().sum::<i64>() as u32, ring: sheet.rim.len() },
+            tally: Tally { peeled: 0, area: sheet.areas.iter().map(|&area| area as u32).sum(), ring: sheet.rim.len() },
             sheet,
         };
         // A step takes one side out and puts two in at most, and each puts a point on the rim.
@@ -133,8 +133,7 @@ impl<'a> Peeling<'a> {
                 return Ok(Some(Peel { squared }));
             }
             let (second, last) = (after(side as usize), after(after(side as usize)));
-            let triangle = [side as usize, second, last].map(|place| self.office.corners[place]);
-            for p in triangle {
+            for p in [side as usize, second, last].map(|place| self.office.corners[place]) {
                 if self.fan[p as usize] == 1 && self.rules.wrong.is_none() {
                     return Err(Refusal { number: 14, place: p as usize });
                 }
@@ -149,7 +148,7 @@ impl<'a> Peeling<'a> {
             self.tally.peeled += 1;
             self.tally.ring += 1;
             if !self.rules.is(Wrong::AreaOfHull) {
-                self.tally.area -= self.office.area(triangle) as u32;
+                self.tally.area -= self.sheet.areas[side as usize / 3] as u32;
             }
             return Ok(Some(Peel { squared }));
         }

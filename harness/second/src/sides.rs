@@ -54,19 +54,21 @@ pub fn after(side: usize) -> usize {
 pub fn mates(corners: &[u16]) -> Result<Vec<u16>, usize> {
     let mut table = Table::with_room(corners.len() / 2 + 1);
     let mut mates = vec![NONE; corners.len()];
-    for side in 0..corners.len() {
-        let (from, to) = (corners[side], corners[after(side)]);
-        let there = table.at((from.min(to), from.max(to)));
-        let (here, beyond) = if from < to { (0, 16) } else { (16, 0) };
-        if (*there >> here) as u16 != NONE {
-            return Err(side);
+    for (t, triangle) in corners.chunks_exact(3).enumerate() {
+        for (i, next) in [1, 2, 0].into_iter().enumerate() {
+            let (side, from, to) = (3 * t + i, triangle[i], triangle[next]);
+            let there = table.at((from.min(to), from.max(to)));
+            let (here, beyond) = if from < to { (0, 16) } else { (16, 0) };
+            if (*there >> here) as u16 != NONE {
+                return Err(side);
+            }
+            let mate = (*there >> beyond) as u16;
+            if mate != NONE {
+                mates[side] = mate;
+                mates[mate as usize] = side as u16;
+            }
+            *there = *there & (NONE as u32) << beyond | (side as u32) << here;
         }
-        let mate = (*there >> beyond) as u16;
-        if mate != NONE {
-            mates[side] = mate;
-            mates[mate as usize] = side as u16;
-        }
-        *there = *there & (NONE as u32) << beyond | (side as u32) << here;
     }
     Ok(mates)
 }
