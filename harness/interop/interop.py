@@ -4,7 +4,7 @@
     interop.py PROGRAM [--itself]
 
 PROGRAM is the binary `interop`. Outlines that the library writes must be read by both as the same ring, valid, with the
-same area; polygons that they write, in either byte order, must be read by the library, and so must MultiPoints, in either
+very area, half of the tally's; polygons that they write, in either byte order, must be read by the library, and so must MultiPoints, in either
 byte order and in mixtures of both. District files go both ways too, in either byte order and in mixtures of both.
 What cannot be imported is skipped and counted. The last line is 'N passed, M failed'.
 """
@@ -44,7 +44,7 @@ class Shapely:
 
     def polygon(self, shape):
         ring = [tuple(map(int, at)) for at in shape.exterior.coords]
-        return ring, len(shape.interiors), shape.is_valid, 2 * shape.area, shape.exterior.is_ccw
+        return ring, len(shape.interiors), shape.is_valid, shape.area, shape.exterior.is_ccw
 
     def holds(self, block):
         shape = self.wkb.loads(block)
@@ -107,7 +107,7 @@ class Gdal:
         outer = shape.GetGeometryRef(0)
         ring = [tuple(map(int, outer.GetPoint_2D(i))) for i in range(outer.GetPointCount())]
         # GDAL's area has no sign; the turning direction is left to shapely.
-        return ring, shape.GetGeometryCount() - 1, shape.IsValid(), 2 * shape.GetArea(), True
+        return ring, shape.GetGeometryCount() - 1, shape.IsValid(), shape.GetArea(), True
 
     def holds(self, block):
         shape = self.ogr.CreateGeometryFromWkb(block)
@@ -233,7 +233,7 @@ def compare_districts(name, peer, districts):
     draw = random.Random(SEED)
     for line in districts:
         block, *parts = line.split(",")
-        areas = [float(part.split()[0]) for part in parts]
+        areas = [int(part.split()[0]) / 2 for part in parts]
         rings = [pairs(part.split()[2:]) for part in parts]
         wanted = "MULTIPOLYGON", [(ring + ring[:1], 0, True, area, True) for ring, area in zip(rings, areas)]
         files = peer.districts(rings)
@@ -265,7 +265,7 @@ def compare(name, peer, outlines):
     for line in outlines:
         block, area, *numbers = line.split()
         ring = pairs(numbers)
-        wanted = "POLYGON", [(ring + ring[:1], 0, True, float(area), True)]
+        wanted = "POLYGON", [(ring + ring[:1], 0, True, int(area) / 2, True)]
         expect(peer.holds(bytes.fromhex(block)) == wanted, f"{name} reads {line}")
         asked = peer.blocks(ring)
         expect(asked[0].hex() == block, f"{name} writes the same bytes as {line}")

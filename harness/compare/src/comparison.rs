@@ -1,6 +1,7 @@
 //! One call at a time, on both sides, from the same lent memory. Answers and all lent memory must be equal, a refusal
 //! must have written nothing, and what lies past the promised places must have stayed.
 
+use crate::areas::{ring, shoelace};
 use crate::counts::{Call, Counts};
 use library::Library;
 use offices::{Random, Sheet};
@@ -207,12 +208,7 @@ impl Comparison<'_> {
             && here.rim.get(sheet.points()..) == lent.rim.get(sheet.points()..)
             && here.ring.get(tally.ring..) == lent.ring.get(tally.ring..);
         self.among("places past the draw's stay", &input, &here, &lent, stayed);
-        let outline = here.ring.get(..tally.ring).unwrap_or(&[]);
-        let at = |i: usize| {
-            let p = outline[i % outline.len()] as usize;
-            (*sheet.xs.get(p).unwrap_or(&0) as i64, *sheet.ys.get(p).unwrap_or(&0) as i64)
-        };
-        let shoelace: i64 = (0..outline.len()).map(|i| at(i).0 * at(i + 1).1 - at(i).1 * at(i + 1).0).sum();
+        let shoelace = shoelace(sheet, ring(&here, tally.ring));
         self.among("the ring's shoelace sum is the area", &input, &shoelace, &tally.area, shoelace == tally.area as i64);
         Ok((tally, here))
     }

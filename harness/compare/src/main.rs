@@ -7,6 +7,7 @@
 //!
 //! The last line is 'N passed, M failed'.
 
+mod areas;
 mod comparison;
 mod counts;
 mod districts;

@@ -179,6 +179,9 @@ impl Comparison<'_> {
         let _ = self.list(sheet, slack);
         let slack = self.longer();
         let list = self.list(sheet, slack);
+        if let Ok((entries, lists)) = &list {
+            self.areas(sheet, *entries, lists);
+        }
         let limits = if accepted { self.limits(sheet, draws) } else { vec![*self.random.pick(&[0, LAST, 100])] };
         let mut ring = None;
         for limit in limits {
