@@ -2,6 +2,7 @@
 // For this crate: no public call, so a `requires` may stand.
 use rim::Tally;
 use rim::answers::Step;
+use rim::keys::Key;
 use rim::queue::gather;
 use rim::ring::lay_ring;
 use rim::start::begin;
@@ -32,8 +33,8 @@ pub fn peel_all(
     ensures { λ r. ⌜ Drew (office (now (xs .entry)) (now (ys .entry)) (now (corners .entry))) limit (now (mate .entry)) (now (kept .entry)) (now (rim .entry)) (begun .peeled) (now (kept .exit)) (now (rim .exit)) (r .peeled) (r .area) (r .ring) ⌝ }
 {
     let mut queue = [0u16; 1024];
-    let mut longs = [0u32; 1024];
-    let mut waiting = gather(xs, ys, corners, mate, kept, &mut queue, &mut longs);
+    let mut keys: [Key; 1024] = [0; 1024];
+    let mut waiting = gather(xs, ys, corners, mate, kept, &mut queue, &mut keys);
     let mut tally = begun;
     loop {
         let moved = step(
@@ -44,7 +45,7 @@ pub fn peel_all(
             kept,
             rim,
             &mut queue,
-            &mut longs,
+            &mut keys,
             waiting,
             limit,
             tally,

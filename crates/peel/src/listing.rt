@@ -2,6 +2,7 @@
 // For this crate: no public call, so a `requires` may stand.
 use rim::Tally;
 use rim::answers::Step;
+use rim::keys::Key;
 use rim::queue::gather;
 use rim::ring::lay_ring;
 use rim::start::begin;
@@ -43,8 +44,8 @@ pub fn list_all(
     ensures { λ r. ⌜ Noted (entries-on (office (now (xs .entry)) (now (ys .entry)) (now (corners .entry))) (now (kept .entry)) (begun .peeled)) (now (least .entry)) (now (peeled .entry)) (now (area .entry)) (now (least .exit)) (now (peeled .exit)) (now (area .exit)) (r .count) ⌝ }
 {
     let mut queue = [0u16; 1024];
-    let mut longs = [0u32; 1024];
-    let mut waiting = gather(xs, ys, corners, mate, kept, &mut queue, &mut longs);
+    let mut keys: [Key; 1024] = [0; 1024];
+    let mut waiting = gather(xs, ys, corners, mate, kept, &mut queue, &mut keys);
     let mut tally = begun;
     let mut shortest: u32 = 4294967295;
     let mut count: usize = 0;
@@ -59,7 +60,7 @@ pub fn list_all(
             kept,
             rim,
             &mut queue,
-            &mut longs,
+            &mut keys,
             waiting,
             0,
             tally,

@@ -32,8 +32,8 @@ all-fit h = rims-low (h .held .acceptable) (h .reached)
 mate-is : {o : Office} {mate kept rim : List ℕ} → Held o mate kept rim → (r b : ℕ) → r < sides o → b < sides o → Reverse o r b → getD mate r 0 ≡ b
 mate-is {o} {mate} h r b l m v = table-at (mate-of (o .corners)) (sides o) mate r (h .mates) l ∙ sym (is-mate o (h .acceptable .single) mate r b m v .1)
 
-module _ {o : Office} {mate kept rim : List ℕ} {peeled area ring : ℕ} (h : State o mate kept rim peeled area ring) {queue longs : List ℕ} {n : ℕ} {found : Best}
-    (g : Next o (front (o .corners) kept) queue longs n found) {s far : ℕ} (f : found ≡ Side s far) where
+module _ {o : Office} {mate kept rim : List ℕ} {peeled area ring : ℕ} (h : State o mate kept rim peeled area ring) {queue keys : List ℕ} {n : ℕ} {found : Best}
+    (g : Next o (front (o .corners) kept) queue keys n found) {s far : ℕ} (f : found ≡ Side s far) where
   abbrev k : List ℕ
   k = front (o .corners) kept
 
@@ -64,5 +64,5 @@ module _ {o : Office} {mate kept rim : List ℕ} {peeled area ring : ℕ} (h : S
   pub inward-there : getD mate (last s) 0 < sides o
   inward-there = let e = in-is in let b = inward a may .1 .below in omega arith
 
-  pub queued-after : {queue′ longs′ : List ℕ} → Joined o queue queue′ longs′ n (getD mate (next s) 0) (getD mate (last s) 0) → Queued o (front (o .corners) (set kept (s / 3) 0)) queue′ longs′ (n + 1)
-  queued-after {queue′} {longs′} j = subst (λ t. Queued o t queue′ longs′ (n + 1)) (sym (front-is o 0 mate kept rim peeled area ring h s far (g .is-best) f)) (joins a (g .queued) some-wait (g .is-first s far f .1) may out-is in-is j grows)
+  pub queued-after : {queue′ keys′ : List ℕ} → Joined o queue queue′ keys′ n (getD mate (next s) 0) (getD mate (last s) 0) → Queued o (front (o .corners) (set kept (s / 3) 0)) queue′ keys′ (n + 1)
+  queued-after {queue′} {keys′} j = subst (λ t. Queued o t queue′ keys′ (n + 1)) (sym (front-is o 0 mate kept rim peeled area ring h s far (g .is-best) f)) (joins a (g .queued) some-wait (g .is-first s far f .1) may out-is in-is j grows)

@@ -13,7 +13,6 @@ pub mod TopSide
 -- what the functions' proofs cite
 pub mod Mated
 pub mod Cornered
-pub mod InOrder
 -- the queue
 pub mod Ranked
 pub mod Bag
