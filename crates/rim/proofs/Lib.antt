@@ -19,6 +19,7 @@ pub mod Bag
 pub mod Stored
 pub mod Rising
 pub mod Sinking
+pub mod Arrivals
 pub mod Queueing
 pub mod Gathered
 -- a step

@@ -10,7 +10,7 @@ use lib.ListN.{length, getD, set, length-set}
 use lib.Seq.{getD-set-other}
 use Rattle.sheet.specs.Office.{Office, sides}
 use Rattle.sheet.specs.Acceptable.{Acceptable}
-use Rattle.rim.specs.Heap.{Heap, Pushed, Sunk, Popped, Joined, Leading, rank, key, rank-at, above, bit, tally}
+use Rattle.rim.specs.Heap.{Heap, Sunk, Popped, Leading, rank, key, rank-at, above, bit, tally}
 use Rattle.rim.proofs.Ranked.{by-key, up, not-up}
 use Rattle.rim.proofs.Bag.{tally-none, tally-more, tally-set}
 use Rattle.rim.proofs.Stored.{key-here, key-there, known-set, measured-set}
@@ -198,7 +198,3 @@ module _ {o : Office} {old keys : List ℕ} {n : ℕ} (h : Heap o old keys n) (l
         let v = ap (λ j. bit (getD old j 0) x) e in
         omega arith;
   }
-
--- one side in the first's place, and one more
-pub joined : {o : Office} {old mid queue keys keys′ : List ℕ} {n s r : ℕ} → Sunk o old mid keys n s → Pushed o mid queue keys′ n r → Joined o old queue keys′ n s r
-joined h p = record { heap = p .heap; bag = λ x. let u = h .bag x in let w = p .bag x in omega arith }

@@ -1,6 +1,7 @@
 -- The sides that wait to be peeled, as a binary heap at the front of a list, with their keys beside: none goes before the one above it.
 -- Assumes nothing.
 use mathlib.Core.Path.{_≡_}
+use mathlib.Core.Logic.{_⊎_}
 use mathlib.Core.Bool.{true, false, cond}
 use mathlib.Core.List.{List}
 use Prim.Native.Nat.{ℕ, _+_, _*_, _-_, _/_, _<_, _≤_}
@@ -62,10 +63,14 @@ pub record Popped (o : Office) (old queue keys : List ℕ) (n : ℕ) : Type 0 wh
   pub heap : Heap o queue keys (n - 1)
   pub bag : (x : ℕ) → tally x queue (n - 1) + bit (getD old 0 0) x ≡ tally x old n
 
--- sides s and r have come in the first's place
-pub record Joined (o : Office) (old queue keys : List ℕ) (n s r : ℕ) : Type 0 where
-  pub heap : Heap o queue keys (n + 1)
-  pub bag : (x : ℕ) → tally x queue (n + 1) + bit (getD old 0 0) x ≡ tally x old n + bit s x + bit r x
+-- of sides s and r those whose triangle's third corner is unmarked wait; the others that waited do so still, but for the first
+pub record Joined (o : Office) (marks old queue keys : List ℕ) (n m s r : ℕ) : Type 0 where
+  pub heap : Heap o queue keys m
+  pub few : m ≤ n + 1
+  pub stays : (x : ℕ) → 0 < tally x old n → (getD old 0 0 ≡ x → ⊥) → 0 < tally x queue m
+  pub one-waits : (getD marks (apex o s) 0 ≡ 1 → ⊥) → 0 < tally s queue m
+  pub two-waits : (getD marks (apex o r) 0 ≡ 1 → ⊥) → 0 < tally r queue m
+  pub only : (x : ℕ) → 0 < tally x queue m → (0 < tally x old n) ⊎ ((s ≡ x) ⊎ (r ≡ x))
 
 -- of the places below m under one place, of which the first is c, place r has a side that none of the others goes before
 pub record Leading (o : Office) (queue : List ℕ) (m c r : ℕ) : Type 0 where

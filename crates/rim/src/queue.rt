@@ -12,11 +12,12 @@ use sheet::plane::wide;
 ghost use mathlib.Core.Path.{_≡_};
 ghost use mathlib.Core.Bool.{cond};
 ghost use Prim.Native.Nat.{_+_, _*_, _/_, _%_, _<_, _≤_};
-ghost use lib.Dec.{ltb};
+ghost use lib.Dec.{ltb, eqb};
 ghost use lib.ListN.{length, getD, take};
 ghost use Rattle.laws.specs.First.{table};
 ghost use Rattle.sheet.specs.Office.{office, mate-of, next, last};
 ghost use Rattle.sheet.specs.Acceptable.{Acceptable};
+ghost use Rattle.sheet.specs.Code.{Numbered};
 ghost use Rattle.rim.specs.Code.{front, Held};
 ghost use Rattle.rim.specs.Heap.{rank, Heap, Pushed, Sunk, Popped, Joined, Leading, Queued, Next};
 ghost use Rattle.rim.specs.Heap as Heap;
@@ -155,29 +156,57 @@ pub fn drop_first(
     }
 }
 
-// Puts the mates of the two other sides of side s's triangle in the place of the first of the n that wait.
+// Whether side s is stuck: its triangle's third corner is on the rim, where it stays, so the side is never removable.
+pub fn is_stuck(corners: &[u16], rim: &[u8], s: usize) -> bool
+    requires { ⌜ (length (now corners) % 3 ≡ 0) × (length (now corners) ≤ 6129) × (s < length (now corners)) × Numbered (now corners) (length (now rim)) ⌝ }
+    ensures { λ b. ⌜ b ≡ eqb (getD (now (rim .entry)) (getD (now (corners .entry)) (last s) 0) 0) 1 ⌝ }
+{
+    let a = s / 3 * 3 + (s + 2) % 3;
+    let apex = wide(corners[a]);
+    rim[apex] == 1
+}
+
+// Of the mates of the two other sides of side s's triangle, puts those that are not stuck in the place of the first of the n that wait; how many
+// wait then. Where both are stuck the first stays: it is stuck too by now, and dropped when it is met.
 pub fn join(
     xs: &[u16],
     ys: &[u16],
     corners: &[u16],
     mate: &[u16; 6129],
+    rim: &[u8],
     queue: &mut [u16; 1024],
     keys: &mut [Key; 1024],
     n: usize,
     s: usize,
-)
-    requires { ⌜ Acceptable (office (now xs) (now ys) (now corners)) × (0 < n) × (n < 1024) × Heap (office (now xs) (now ys) (now corners)) (now queue) (now keys) n ⌝ }
+) -> usize
+    requires { ⌜ Acceptable (office (now xs) (now ys) (now corners)) × (0 < n) × (n < 1024) × Heap (office (now xs) (now ys) (now corners)) (now queue) (now keys) n × (length (now xs) ≤ length (now rim)) ⌝ }
     requires { ⌜ (s < length (now corners)) × (getD (now mate) (next s) 0 < length (now corners)) × (getD (now mate) (last s) 0 < length (now corners)) ⌝ }
-    ensures { λ _. ⌜ Joined (office (now (xs .entry)) (now (ys .entry)) (now (corners .entry))) (now (queue .entry)) (now (queue .exit)) (now (keys .exit)) n (getD (now (mate .entry)) (next s) 0) (getD (now (mate .entry)) (last s) 0) ⌝ }
+    ensures { λ r. ⌜ Joined (office (now (xs .entry)) (now (ys .entry)) (now (corners .entry))) (now (rim .entry)) (now (queue .entry)) (now (queue .exit)) (now (keys .exit)) n r (getD (now (mate .entry)) (next s) 0) (getD (now (mate .entry)) (last s) 0) ⌝ }
 {
     let e = s / 3 * 3 + (s + 1) % 3;
     let outward = mate[e];
-    let one = key_of(xs, ys, corners, wide(outward));
-    sink(xs, ys, corners, queue, keys, n, outward, one);
+    let out = wide(outward);
     let f = s / 3 * 3 + (s + 2) % 3;
     let inward = mate[f];
-    let two = key_of(xs, ys, corners, wide(inward));
-    push(xs, ys, corners, queue, keys, n, inward, two);
+    let into = wide(inward);
+    let one = is_stuck(corners, rim, out);
+    let two = is_stuck(corners, rim, into);
+    if one & two {
+        return n;
+    }
+    if one {
+        let only = key_of(xs, ys, corners, into);
+        sink(xs, ys, corners, queue, keys, n, inward, only);
+        return n;
+    }
+    let first = key_of(xs, ys, corners, out);
+    sink(xs, ys, corners, queue, keys, n, outward, first);
+    if two {
+        return n;
+    }
+    let second = key_of(xs, ys, corners, into);
+    push(xs, ys, corners, queue, keys, n, inward, second);
+    n + 1
 }
 
 // Puts all sides of the rim into the queue; how many they are.

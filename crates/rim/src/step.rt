@@ -55,7 +55,7 @@ pub fn step(
             let apex = corners[a] as usize;
             kept[triangle] = 0;
             rim[apex] = 1;
-            join(xs, ys, corners, mate, queue, keys, n, place);
+            let m = join(xs, ys, corners, mate, rim, queue, keys, n, place);
             let after = tally.after_peel(tally.area - gone, tally.ring + 1);
             return Moved {
                 step: Step::Peeled {
@@ -63,7 +63,7 @@ pub fn step(
                     squared: squared,
                 },
                 tally: after,
-                waiting: n + 1,
+                waiting: m,
             };
         }
     }
