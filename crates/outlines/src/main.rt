@@ -1,20 +1,9 @@
 // The list printer: reads an office on standard input and prints a line per entry. Document 01, 'The printed list'.
 // One byte more than a text may have is read, so that a longer one is seen. It stops where the output takes no more.
 use listing::Parsed;
+use peel::Drawn;
 use peel::Listed;
-use peel::Tally;
-use peel::drawing::peel_all;
-use rim::ring::lay_ring;
-use rim::start::begin;
-use sheet::Checked;
 use sheet::Refusal;
-use sheet::sides::mates;
-ghost use mathlib.Core.Path.{_≡_};
-ghost use Prim.Native.Nat.{_≤_};
-ghost use lib.ListN.{length};
-ghost use Rattle.sheet.specs.Office.{office, rims};
-ghost use Rattle.sheet.specs.Acceptable.{Acceptable};
-ghost use Rattle.rim.specs.Code.{State};
 
 const OUTPUT: i32 = 1;
 
@@ -36,22 +25,17 @@ fn print_outline(least: u32, peeled: u32, area: u32, ring: &[u16]) -> bool {
     false
 }
 
-// The lines of the first entries. Least limits fall, so the marks go on from one entry's outline to the next.
+// The lines of the first entries: each has the outline that its least limit draws.
 fn print_entries(
     xs: &[u16],
     ys: &[u16],
     corners: &[u16],
-    mate: &[u16; 6129],
     least: &[u32],
     count: usize,
     kept: &mut [u8],
     rim: &mut [u8],
     ring: &mut [u16],
-    begun: Tally,
-)
-    requires { ⌜ State (office (now xs) (now ys) (now corners)) (now mate) (now kept) (now rim) (begun .peeled) (begun .area) (begun .ring) × (length (now xs) ≤ length (now ring)) ⌝ }
-{
-    let mut tally = begun;
+) {
     let mut i = 0;
     while i < least.len() {
         if count <= i {
@@ -59,47 +43,16 @@ fn print_entries(
         }
         let limit = least[i];
         i += 1;
-        let drawn = peel_all(xs, ys, corners, mate, kept, rim, limit, tally);
-        lay_ring(xs, ys, corners, mate, kept, rim, drawn, ring);
-        if !print_outline(limit, drawn.peeled, drawn.area, peel::outline(ring, drawn)) {
-            return;
-        }
-        tally = drawn;
-    }
-}
-
-// The same for an accepted office whose rim has `hull` sides.
-fn print_accepted(xs: &[u16], ys: &[u16], corners: &[u16], hull: usize, least: &[u32], count: usize)
-    requires { ⌜ Acceptable (office (now xs) (now ys) (now corners)) × (hull ≡ rims (office (now xs) (now ys) (now corners))) ⌝ }
-{
-    let mut kept = [0u8; 2043];
-    let mut rim = [0u8; 1024];
-    let mut ring = [0u16; 1024];
-    let mate = mates(corners);
-    let begun = begin(xs, ys, corners, &mate, hull, &mut kept, &mut rim);
-    print_entries(
-        xs,
-        ys,
-        corners,
-        &mate,
-        least,
-        count,
-        &mut kept,
-        &mut rim,
-        &mut ring,
-        begun,
-    );
-}
-
-// An office that was listed is accepted: the check says how long its rim is.
-fn print_listed(xs: &[u16], ys: &[u16], corners: &[u16], least: &[u32], count: usize) {
-    let checked = sheet::check(xs, ys, corners);
-    match checked {
-        Checked::Refused(refusal) => {
-            print_refusal(refusal);
-        }
-        Checked::Accepted(hull) => {
-            print_accepted(xs, ys, corners, hull, least, count);
+        let drawn = peel::draw(xs, ys, corners, limit, kept, rim, ring);
+        match drawn {
+            Drawn::Refused(_) => {
+                return;
+            }
+            Drawn::Outline(tally) => {
+                if !print_outline(limit, tally.peeled, tally.area, peel::outline(ring, tally)) {
+                    return;
+                }
+            }
         }
     }
 }
@@ -127,7 +80,16 @@ fn print_list(xs: &[u16], ys: &[u16], corners: &[u16]) {
             print_refusal(refusal);
         }
         Listed::Entries(count) => {
-            print_listed(xs, ys, corners, &least, count);
+            print_entries(
+                xs,
+                ys,
+                corners,
+                &least,
+                count,
+                &mut kept,
+                &mut rim,
+                &mut ring,
+            );
         }
     }
 }

@@ -5,12 +5,15 @@ use mathlib.Core.List.{List, []}
 use Prim.Native.Nat.{ℕ, _+_, _-_, _/_, _≤_}
 use native.Mathlib.Omega.{arith}
 use lib.Dec.{leb}
-use lib.ListN.{length}
+use lib.ListN.{length, take, drop, replicate}
+use lib.Seq.{take-at}
+use Rattle.laws.specs.First.{table}
+use Rattle.laws.proofs.Fill.{length-table}
 use Rattle.laws.proofs.Test.{and-iff, leb-iff}
-use Rattle.sheet.specs.Office.{Office, office, points, triangles, rims}
+use Rattle.sheet.specs.Office.{Office, office, points, triangles, rims, mate-of}
 use Rattle.sheet.specs.Verdict.{verdict}
 use Rattle.sheet.specs.Acceptable.{Acceptable}
-use Rattle.sheet.specs.Answer.{answer}
+use Rattle.sheet.specs.Answer.{answer, handed}
 use Rattle.sheet.specs.declared.Checked.{Checked}
 use Rattle.sheet.specs.declared.Checked.the-variants.{Accepted, Refused}
 use Rattle.sheet.specs.declared.Refusal.{Refusal}
@@ -27,6 +30,12 @@ use Rattle.peel.proofs.Outcomes.{draw-given, draw-refused, list-given, 
 -- the room found is the definition's, and what the check answers is the verdict
 by-verdict : (o : Office) {room enough : Bool} {x y : Checked} → room ≡ enough → answer x ≡ verdict room o → x ≡ y → verdict enough o ≡ answer y
 by-verdict o t e f = ap (λ b. verdict b o) (sym t) ∙ sym e ∙ ap answer f
+
+-- an accepted office's table of mates stands in front
+pub mates-handed : (corners old mate : List ℕ) {x : Checked} {m : ℕ} → x ≡ Accepted m → mate ≡ handed (answer x) corners old → take (length corners) mate ≡ table (mate-of corners) (length corners)
+mates-handed corners old mate f e =
+    ap (take (length corners)) (e ∙ ap (λ y. handed (answer y) corners old) f)
+    ∙ take-at (table (mate-of corners) (length corners)) (drop (length corners) (replicate 6129 0)) (length corners) (length-table (mate-of corners) (length corners))
 
 draw-enough : (o : Office) (kept rim round : List ℕ) → draw-room o kept rim round ≡ true → (triangles o ≤ length kept) × (points o ≤ length rim) × (points o ≤ length round)
 draw-enough o kept rim round e =

@@ -1,5 +1,5 @@
 -- Moving the limit down: peeling on from a limit's outline to a lower limit comes to that limit's outline. Assumes nothing.
-use mathlib.Core.Path.{_≡_, refl, sym, ap, ap₂, _∙_}
+use mathlib.Core.Path.{_≡_, refl, ap, _∙_}
 use mathlib.Core.Bool.{Bool, true, false, cond}
 use mathlib.Core.List.{List}
 use mathlib.Core.Option.{Option, none, some}
@@ -10,11 +10,8 @@ use lib.Dec.{ltb}
 use Rattle.sheet.specs.Office.{Office, sides, triangles}
 use Rattle.sheet.specs.Acceptable.{Acceptable}
 use Rattle.rim.specs.Peel.{long, best, peel, turned, peels, whole, drawn}
-use Rattle.rim.specs.Code.{front, State}
 use Rattle.rim.specs.Reached.{Reached, begun, more}
-use Rattle.rim.proofs.Reached.{sound}
 use Rattle.rim.proofs.TopSide.{Top, best-top}
-use Rattle.peel.specs.Code.{Drew}
 use Rattle.peel.proofs.Ahead.{Ahead, all-ahead, peel-ahead}
 
 module _ {o : Office} (a : Acceptable o) (high low : ℕ) (below : low ≤ high) where
@@ -47,13 +44,3 @@ module _ {o : Office} (a : Acceptable o) (high low : ℕ) (below : low ≤ high)
       let (n, (r, left, all, h)) = peels-on (triangles o) 0 (whole o) (begun, triangles o, omega arith, all-ahead) in
       let is : triangles o - n ≡ left = omega arith in
       (n, r, ap (λ (m : ℕ). peels o m low (peels o (triangles o) high (whole o))) is ∙ h .goes)
-
--- ... and so the code that peels on: from the marks of a draw to those of a draw at a lower limit
-pub drew-on : {o : Office} {high low : ℕ} {mate kept rim kept′ rim′ : List ℕ} {count area ring peeled′ area′ ring′ : ℕ} → low ≤ high
-    → State o mate kept rim count area ring → front (o .corners) kept ≡ drawn o high → Drew o low mate kept rim count kept′ rim′ peeled′ area′ ring′
-    → front (o .corners) kept′ ≡ drawn o low
-drew-on {o} {high} {low} {count = count} below s is d =
-    let a = s .held .acceptable in
-    let (n, r, goes) = going-on a high low below in
-    let same : count ≡ n = sym (sound o a (s .reached) .count) ∙ ap (Rattle.rim.specs.Peel.peeled o) is ∙ sound o a r .count in
-    d .marks ∙ ap₂ (λ (m : ℕ) (k : List ℕ). peels o (triangles o - m) low k) same is ∙ goes

@@ -1,5 +1,5 @@
 // Layer 2, peeling: draw, outline and list. Document 01, 'Peeling'.
-pub mod drawing;
+mod drawing;
 mod listing;
 mod room;
 
@@ -10,7 +10,7 @@ use room::draw_room;
 use room::list_room;
 use sheet::Checked;
 use sheet::Refusal;
-use sheet::check_lent;
+use sheet::check_mates;
 ghost use mathlib.Core.Path.{_≡_};
 ghost use Rattle.peel.specs.Answer.{used, DrawPromise, ListPromise};
 
@@ -40,13 +40,14 @@ pub fn draw(
     ensures { λ r. ⌜ DrawPromise (now (xs .entry)) (now (ys .entry)) (now (corners .entry)) limit (now (kept .entry)) (now (rim .entry)) (now (ring .entry)) r (now (kept .exit)) (now (rim .exit)) (now (ring .exit)) ⌝ }
 {
     let room = draw_room(xs.len(), corners.len(), kept.len(), rim.len(), ring.len());
-    let checked = check_lent(xs, ys, corners, room);
+    let mut mate = [0u16; 6129];
+    let checked = check_mates(xs, ys, corners, room, &mut mate);
     match checked {
         Checked::Refused(refusal) => {
             return Drawn::Refused(refusal);
         }
         Checked::Accepted(hull) => {
-            let tally = draw_accepted(xs, ys, corners, hull, limit, kept, rim, ring);
+            let tally = draw_accepted(xs, ys, corners, &mate, hull, limit, kept, rim, ring);
             return Drawn::Outline(tally);
         }
     }
@@ -88,13 +89,26 @@ pub fn list(
         peeled.len(),
         area.len(),
     );
-    let checked = check_lent(xs, ys, corners, room);
+    let mut mate = [0u16; 6129];
+    let checked = check_mates(xs, ys, corners, room, &mut mate);
     match checked {
         Checked::Refused(refusal) => {
             return Listed::Refused(refusal);
         }
         Checked::Accepted(hull) => {
-            let count = list_accepted(xs, ys, corners, hull, kept, rim, ring, least, peeled, area);
+            let count = list_accepted(
+                xs,
+                ys,
+                corners,
+                &mate,
+                hull,
+                kept,
+                rim,
+                ring,
+                least,
+                peeled,
+                area,
+            );
             return Listed::Entries(count);
         }
     }

@@ -2,15 +2,16 @@
 // For this crate: no public call, so a `requires` may stand.
 use rim::Tally;
 use rim::answers::Step;
+use rim::keys::Key;
 use rim::queue::gather;
 use rim::ring::lay_ring;
 use rim::start::begin;
 use rim::step::step;
-use sheet::sides::mates;
 ghost use mathlib.Core.Path.{_≡_};
 ghost use Prim.Native.Nat.{_+_, _/_, _≤_};
-ghost use lib.ListN.{length};
-ghost use Rattle.sheet.specs.Office.{area, office};
+ghost use lib.ListN.{length, take};
+ghost use Rattle.laws.specs.First.{table};
+ghost use Rattle.sheet.specs.Office.{area, office, mate-of};
 ghost use Rattle.sheet.specs.Acceptable.{Acceptable};
 ghost use Rattle.peel.specs.List.{entries};
 ghost use Rattle.rim.specs.Code.{State};
@@ -43,8 +44,8 @@ pub fn list_all(
     ensures { λ r. ⌜ Noted (entries-on (office (now (xs .entry)) (now (ys .entry)) (now (corners .entry))) (now (kept .entry)) (begun .peeled)) (now (least .entry)) (now (peeled .entry)) (now (area .entry)) (now (least .exit)) (now (peeled .exit)) (now (area .exit)) (r .count) ⌝ }
 {
     let mut queue = [0u16; 1024];
-    let mut longs = [0u32; 1024];
-    let mut waiting = gather(xs, ys, corners, mate, kept, &mut queue, &mut longs);
+    let mut keys: [Key; 1024] = [0; 1024];
+    let mut waiting = gather(xs, ys, corners, mate, kept, &mut queue, &mut keys);
     let mut tally = begun;
     let mut shortest: u32 = 4294967295;
     let mut count: usize = 0;
@@ -59,7 +60,7 @@ pub fn list_all(
             kept,
             rim,
             &mut queue,
-            &mut longs,
+            &mut keys,
             waiting,
             0,
             tally,
@@ -99,6 +100,7 @@ pub fn list_accepted(
     xs: &[u16],
     ys: &[u16],
     corners: &[u16],
+    mate: &[u16; 6129],
     hull: usize,
     kept: &mut [u8],
     rim: &mut [u8],
@@ -109,24 +111,13 @@ pub fn list_accepted(
 ) -> usize
     requires { ⌜ Acceptable (office (now xs) (now ys) (now corners)) × (hull ≡ sheet.rims (office (now xs) (now ys) (now corners))) × (length (now corners) / 3 ≤ length (now kept)) × (length (now xs) ≤ length (now rim)) × (length (now xs) ≤ length (now ring)) ⌝ }
     requires { ⌜ (length (now xs) ≤ length (now least) + 2) × (length (now xs) ≤ length (now peeled) + 2) × (length (now xs) ≤ length (now area) + 2) ⌝ }
+    requires { ⌜ take (length (now corners)) (now mate) ≡ table (mate-of (now corners)) (length (now corners)) ⌝ }
     ensures { λ r. ⌜ Lent (office (now (xs .entry)) (now (ys .entry)) (now (corners .entry))) (peeling.drawn (office (now (xs .entry)) (now (ys .entry)) (now (corners .entry))) 0) (now (kept .entry)) (now (rim .entry)) (now (ring .entry)) (now (kept .exit)) (now (rim .exit)) (now (ring .exit)) ⌝ }
     ensures { λ r. ⌜ Written (entries (office (now (xs .entry)) (now (ys .entry)) (now (corners .entry)))) (now (least .entry)) (now (peeled .entry)) (now (area .entry)) (now (least .exit)) (now (peeled .exit)) (now (area .exit)) r ⌝ }
 {
-    let mate = mates(corners);
-    let begun = begin(xs, ys, corners, &mate, hull, kept, rim);
-    let ended = list_all(
-        xs,
-        ys,
-        corners,
-        &mate,
-        kept,
-        rim,
-        begun,
-        least,
-        peeled,
-        area,
-    );
+    let begun = begin(xs, ys, corners, mate, hull, kept, rim);
+    let ended = list_all(xs, ys, corners, mate, kept, rim, begun, least, peeled, area);
     let tally = ended.tally;
-    lay_ring(xs, ys, corners, &mate, kept, rim, tally, ring);
+    lay_ring(xs, ys, corners, mate, kept, rim, tally, ring);
     ended.count
 }

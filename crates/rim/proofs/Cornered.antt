@@ -8,7 +8,6 @@ use lib.IntN.{natAbs}
 use Rattle.sheet.specs.Acceptable.{Acceptable}
 use Rattle.sheet.specs.Plane.{Small, spot, turn, squared}
 use Rattle.sheet.specs.Office.{office, next, area}
-use Rattle.sheet.specs.Code.{Numbered}
 use Rattle.sheet.proofs.Side.{next-below}
 use Rattle.rim.specs.Peel.{long}
 
@@ -46,7 +45,3 @@ module _ (xs ys corners : List ℕ) where
       → cx ≡ getD xs (getD corners (t * 3 + 2) 0) 0 → cy ≡ getD ys (getD corners (t * 3 + 2) 0) 0
       → turn (spot ax ay) (spot bx by) (spot cx cy) ≡ area (office xs ys corners) t
   area-read t ax ay bx by cx cy = cc
-
--- so they fit the tables by points
-pub corners-low : {xs ys corners : List ℕ} → Acceptable (office xs ys corners) → Numbered corners 1024
-corners-low a s l = omega (arith, a .numbered s l, a .points-bound .1)

@@ -28,26 +28,26 @@ count-below test (suc t) (suc n) l = step (test zero) (count-below (λ i. test (
     step false h = h
 
 -- the rim sides below s are in the queue
-pub record Gathering (o : Office) (k queue longs : List ℕ) (n s : ℕ) : Type 0 where
+pub record Gathering (o : Office) (k queue keys : List ℕ) (n s : ℕ) : Type 0 where
   pub within : s ≤ sides o
-  pub heap : Heap o queue longs n
+  pub heap : Heap o queue keys n
   pub many : n ≡ count (rim o k) s
   pub stock : (r : ℕ) → (0 < tally r queue n) ↔ ((r < s) × (rim o k r ≡ true))
 
-pub gather-begins : (o : Office) (k queue longs : List ℕ) → (length queue ≡ 1024) × (length longs ≡ 1024) → Gathering o k queue longs 0 0
+pub gather-begins : (o : Office) (k queue keys : List ℕ) → (length queue ≡ 1024) × (length keys ≡ 1024) → Gathering o k queue keys 0 0
 unfolding count
-gather-begins o k queue longs z = record {
+gather-begins o k queue keys z = record {
   within = omega arith;
   heap = record { size = z; known = λ i l. absurd (omega arith); measured = λ i l. absurd (omega arith); order = λ i l m. absurd (omega arith) };
   many = refl;
   stock = λ r. ((λ l. absurd (let e = tally-none r queue in omega arith)), (λ h. absurd (let l = h .0 in omega arith)));
 }
 
-module _ (xs ys corners k queue longs : List ℕ) (n s : ℕ) (g : Gathering (office xs ys corners) k queue longs n s) where
+module _ (xs ys corners k queue keys : List ℕ) (n s : ℕ) (g : Gathering (office xs ys corners) k queue keys n s) where
   abbrev o : Office
   o = office xs ys corners
 
-  pub gathered : sides o ≤ s → Queued o k queue longs n
+  pub gathered : sides o ≤ s → Queued o k queue keys n
   gathered l =
       let e : s ≡ sides o = (let h = g .within in omega arith) in
       record {
@@ -61,7 +61,7 @@ module _ (xs ys corners k queue longs : List ℕ) (n s : ℕ) (g : Gathering (of
     rim-is : (c : Bool) → b ≡ c → rim o k s ≡ c
     rim-is c e = sym (rim-bare xs ys corners k s) ∙ sym is ∙ e
 
-    pub skips : b ≡ false → Gathering o k queue longs n (s + 1)
+    pub skips : b ≡ false → Gathering o k queue keys n (s + 1)
     skips e = record {
       within = omega arith;
       heap = g .heap;
@@ -80,7 +80,7 @@ module _ (xs ys corners k queue longs : List ℕ) (n s : ℕ) (g : Gathering (of
       pub takes-fits : rims o k ≤ 1024 → n < 1024
       takes-fits m = let u = count-below (rim o k) (s + 1) (sides o) (omega arith) in let w = more in omega arith
 
-      pub takes : {queue′ longs′ : List ℕ} → Pushed o queue queue′ longs′ n s → Gathering o k queue′ longs′ (n + 1) (s + 1)
+      pub takes : {queue′ keys′ : List ℕ} → Pushed o queue queue′ keys′ n s → Gathering o k queue′ keys′ (n + 1) (s + 1)
       takes {queue′} p = record {
         within = omega arith;
         heap = p .heap;

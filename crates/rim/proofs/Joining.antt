@@ -1,14 +1,14 @@
 -- A step's queue: the two sides that a peel lays bare are the mates of the other two sides of its triangle, and there is room for them. Assumes nothing.
-use mathlib.Core.Path.{_≡_, sym, subst, _∙_}
+use mathlib.Core.Path.{_≡_, sym, ap, subst, _∙_}
 use mathlib.Core.List.{List}
 use Prim.Native.Nat.{ℕ, suc, _+_, _/_, _<_, _≤_}
 use native.Mathlib.Omega.{arith}
 use lib.ListN.{getD, set}
 use Rattle.laws.proofs.Fill.{table-at}
-use Rattle.sheet.specs.Office.{Office, sides, next, last, mate-of}
+use Rattle.sheet.specs.Office.{Office, sides, apex, next, last, mate-of}
 use Rattle.sheet.specs.Acceptable.{Acceptable, Reverse}
 use Rattle.sheet.proofs.Side.{next-below, last-below}
-use Rattle.rim.specs.Peel.{peel, rims}
+use Rattle.rim.specs.Peel.{mark, on-rim, peel, rims}
 use Rattle.rim.specs.Reached.{Reached, more}
 use Rattle.rim.specs.Code.{front, Held, State}
 use Rattle.rim.specs.Heap.{Queued, Next, Joined}
@@ -19,7 +19,7 @@ use Rattle.rim.proofs.OnePeel.{Peelable, outward, inward}
 use Rattle.rim.proofs.Reached.{sound}
 use Rattle.rim.proofs.Rings.{rims-are, rims-after, ring-fits}
 use Rattle.rim.proofs.Queueing.{joins}
-use Rattle.rim.proofs.Stepping.{can, front-is}
+use Rattle.rim.proofs.Stepping.{can, front-is, on}
 
 -- a place for each side of the rim
 pub rims-low : {o : Office} {n : ℕ} {k : List ℕ} → Acceptable o → Reached o n k → rims o k ≤ 1024
@@ -32,8 +32,8 @@ all-fit h = rims-low (h .held .acceptable) (h .reached)
 mate-is : {o : Office} {mate kept rim : List ℕ} → Held o mate kept rim → (r b : ℕ) → r < sides o → b < sides o → Reverse o r b → getD mate r 0 ≡ b
 mate-is {o} {mate} h r b l m v = table-at (mate-of (o .corners)) (sides o) mate r (h .mates) l ∙ sym (is-mate o (h .acceptable .single) mate r b m v .1)
 
-module _ {o : Office} {mate kept rim : List ℕ} {peeled area ring : ℕ} (h : State o mate kept rim peeled area ring) {queue longs : List ℕ} {n : ℕ} {found : Best}
-    (g : Next o (front (o .corners) kept) queue longs n found) {s far : ℕ} (f : found ≡ Side s far) where
+module _ {o : Office} {mate kept rim : List ℕ} {peeled area ring : ℕ} (h : State o mate kept rim peeled area ring) {queue keys : List ℕ} {n : ℕ} {found : Best}
+    (g : Next o (front (o .corners) kept) queue keys n found) {s far : ℕ} (f : found ≡ Side s far) where
   abbrev k : List ℕ
   k = front (o .corners) kept
 
@@ -64,5 +64,8 @@ module _ {o : Office} {mate kept rim : List ℕ} {peeled area ring : ℕ} (h : S
   pub inward-there : getD mate (last s) 0 < sides o
   inward-there = let e = in-is in let b = inward a may .1 .below in omega arith
 
-  pub queued-after : {queue′ longs′ : List ℕ} → Joined o queue queue′ longs′ n (getD mate (next s) 0) (getD mate (last s) 0) → Queued o (front (o .corners) (set kept (s / 3) 0)) queue′ longs′ (n + 1)
-  queued-after {queue′} {longs′} j = subst (λ t. Queued o t queue′ longs′ (n + 1)) (sym (front-is o 0 mate kept rim peeled area ring h s far (g .is-best) f)) (joins a (g .queued) some-wait (g .is-first s far f .1) may out-is in-is j grows)
+  pub queued-after : {queue′ keys′ : List ℕ} {m : ℕ} → Joined o (set rim (apex o s) 1) queue queue′ keys′ n m (getD mate (next s) 0) (getD mate (last s) 0)
+      → Queued o (front (o .corners) (set kept (s / 3) 0)) queue′ keys′ m
+  queued-after {queue′} {keys′} {m} j =
+      let e = front-is o 0 mate kept rim peeled area ring h s far (g .is-best) f in
+      subst (λ t. Queued o t queue′ keys′ m) (sym e) (joins a (g .queued) some-wait (g .is-first s far f .1) may out-is in-is (λ p l. on o 0 mate kept rim peeled area ring h s far (g .is-best) f p l ∙ ap (λ t. mark (on-rim o t p)) e) j grows)

@@ -13,13 +13,13 @@ pub mod TopSide
 -- what the functions' proofs cite
 pub mod Mated
 pub mod Cornered
-pub mod InOrder
 -- the queue
 pub mod Ranked
 pub mod Bag
 pub mod Stored
 pub mod Rising
 pub mod Sinking
+pub mod Arrivals
 pub mod Queueing
 pub mod Gathered
 -- a step

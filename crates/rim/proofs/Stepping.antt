@@ -101,7 +101,7 @@ module _ (o : Office) (limit : ℕ) (mate kept rim : List ℕ) (peeled area ring
     pub front-is : front (o .corners) (set kept (s / 3) 0) ≡ peel k s
     front-is = take-set-lt (triangles o) kept (s / 3) 0 triangle-there
 
-    on : (p : ℕ) → p < points o → getD rim′ p 0 ≡ mark (on-rim o (front (o .corners) kept′) p)
+    pub on : (p : ℕ) → p < points o → getD (set rim (apex o s) 1) p 0 ≡ mark (on-rim o (front (o .corners) kept′) p)
     unfolding rim′
     on p l = step (ℕ-discrete p (apex o s)) ∙ ap mark (sym (on-rim-after (h .held .acceptable) can p)) ∙ ap (λ j. mark (on-rim o j p)) (sym front-is)
       where

@@ -7,9 +7,9 @@ use mathlib.Core.Path.{_≡_}
 use lib.Dec.{ltb}
 use lib.ListN.{length, getD, set, take, drop}
 use Rattle.laws.specs.First.{table}
-use Rattle.sheet.specs.Office.{Office, bare, mate-of, points, sides, triangles, point, tail, head}
+use Rattle.sheet.specs.Office.{Office, bare, mate-of, points, sides, triangles, tail, head}
 use Rattle.sheet.specs.Acceptable.{Acceptable}
-use Rattle.rim.specs.Peel.{mark, rim, on-rim, precedes, first-end, second-end, long, best, turned, rims, doubled}
+use Rattle.rim.specs.Peel.{mark, rim, on-rim, long, best, turned, rims, doubled}
 use Rattle.rim.specs.Reached.{Reached}
 use Rattle.rim.specs.declared.answers.Best.{Best}
 use Rattle.rim.specs.declared.answers.Best.the-variants.{Side, Nothing}
@@ -19,17 +19,6 @@ use Rattle.rim.specs.declared.answers.Step.the-variants.{Peeled, Nothing
 -- the definitions' marks: those in front, one a triangle
 abbrev pub front : List ℕ → List ℕ → List ℕ
 front corners kept = take (length corners / 3) kept
-
--- side s, of length long, goes before side r, of length other
-abbrev pub earlier : Office → ℕ → ℕ → ℕ → ℕ → Bool
-earlier o s long r other = precedes long (point o (first-end o s)) (point o (second-end o s)) other (point o (first-end o r)) (point o (second-end o r))
-
--- the ends of side s, in their order
-pub record Ordered (o : Office) (s first second : ℕ) : Type 0 where
-  pub is-first : first ≡ first-end o s
-  pub is-second : second ≡ second-end o s
-  pub first-there : first < points o
-  pub second-there : second < points o
 
 -- an acceptable office, its mates, and the marks of its triangles and of the points on the rim
 pub record Held (o : Office) (mate kept rim : List ℕ) : Type 0 where

@@ -13,12 +13,6 @@ pub struct Found {
     pub waiting: usize,
 }
 
-// A side's two ends by their point numbers, in their order.
-pub struct Ends {
-    pub first: usize,
-    pub second: usize,
-}
-
 // What one step did.
 pub enum Step {
     Peeled { triangle: usize, squared: u32 },

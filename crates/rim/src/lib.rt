@@ -1,7 +1,7 @@
 // Layer 2, one peel on the rim: the marks and the tally before the first peel, a step, and the ring. Document 01, 'Peeling'.
 // For the layers above: no public call, so a `requires` may stand.
 pub mod answers;
-mod best;
+pub mod keys;
 pub mod queue;
 pub mod ring;
 mod sides;

@@ -4,6 +4,7 @@ use crate::Tally;
 use crate::answers::Best;
 use crate::answers::Moved;
 use crate::answers::Step;
+use crate::keys::Key;
 use crate::queue::join;
 use crate::queue::next_side;
 use crate::sides::area_of;
@@ -20,16 +21,16 @@ pub fn step(
     kept: &mut [u8],
     rim: &mut [u8],
     queue: &mut [u16; 1024],
-    longs: &mut [u32; 1024],
+    keys: &mut [Key; 1024],
     waiting: usize,
     limit: u32,
     tally: Tally,
 ) -> Moved
-    requires { ⌜ State (office (now xs) (now ys) (now corners)) (now mate) (now kept) (now rim) (tally .peeled) (tally .area) (tally .ring) × Queued (office (now xs) (now ys) (now corners)) (front (now corners) (now kept)) (now queue) (now longs) waiting ⌝ }
+    requires { ⌜ State (office (now xs) (now ys) (now corners)) (now mate) (now kept) (now rim) (tally .peeled) (tally .area) (tally .ring) × Queued (office (now xs) (now ys) (now corners)) (front (now corners) (now kept)) (now queue) (now keys) waiting ⌝ }
     ensures { λ r. ⌜ Stepped (office (now (xs .entry)) (now (ys .entry)) (now (corners .entry))) limit (now (mate .entry)) (now (kept .entry)) (now (rim .entry)) (now (kept .exit)) (now (rim .exit)) (tally .peeled) (r .step) (r .tally .peeled) (r .tally .area) (r .tally .ring) ⌝ }
-    ensures { λ r. ⌜ Queued (office (now (xs .entry)) (now (ys .entry)) (now (corners .entry))) (front (now (corners .entry)) (now (kept .exit))) (now (queue .exit)) (now (longs .exit)) (r .waiting) ⌝ }
+    ensures { λ r. ⌜ Queued (office (now (xs .entry)) (now (ys .entry)) (now (corners .entry))) (front (now (corners .entry)) (now (kept .exit))) (now (queue .exit)) (now (keys .exit)) (r .waiting) ⌝ }
 {
-    let next = next_side(xs, ys, corners, mate, kept, rim, queue, longs, waiting);
+    let next = next_side(xs, ys, corners, mate, kept, rim, queue, keys, waiting);
     let n = next.waiting;
     let found = next.side;
     match found {
@@ -54,7 +55,7 @@ pub fn step(
             let apex = corners[a] as usize;
             kept[triangle] = 0;
             rim[apex] = 1;
-            join(xs, ys, corners, mate, queue, longs, n, place);
+            let m = join(xs, ys, corners, mate, rim, queue, keys, n, place);
             let after = tally.after_peel(tally.area - gone, tally.ring + 1);
             return Moved {
                 step: Step::Peeled {
@@ -62,7 +63,7 @@ pub fn step(
                     squared: squared,
                 },
                 tally: after,
-                waiting: n + 1,
+                waiting: m,
             };
         }
     }

@@ -12,12 +12,12 @@ use Rattle.peel.proofs.drawing.peel_all.Statement.{statement}
 use Rattle.peel.proofs.drawing.peel_all.Tie as tie
 
 abbrev Inv-loop : tie.InvT-loop
-Inv-loop xs ys corners mate kept₀ rim₀ limit queue₀ longs₀ waiting₀ tally₀ kept rim queue longs waiting tally =
+Inv-loop xs ys corners mate kept₀ rim₀ limit queue₀ keys₀ waiting₀ tally₀ kept rim queue keys waiting tally =
     Drawing (office xs ys corners) limit mate kept₀ rim₀ (tally₀ .peeled) kept rim (tally .peeled) (tally .area) (tally .ring)
-    × Queued (office xs ys corners) (front corners kept) queue longs waiting
+    × Queued (office xs ys corners) (front corners kept) queue keys waiting
 
 abbrev μ-loop : tie.MeasureT-loop
-μ-loop xs ys corners mate kept₀ rim₀ limit queue₀ longs₀ waiting₀ tally₀ kept rim queue longs waiting tally = length corners / 3 - tally .peeled
+μ-loop xs ys corners mate kept₀ rim₀ limit queue₀ keys₀ waiting₀ tally₀ kept rim queue keys waiting tally = length corners / 3 - tally .peeled
 
 pub peel-all-spec : {M : Type 1} → statement M
 peel-all-spec =

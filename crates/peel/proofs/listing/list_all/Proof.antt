@@ -15,13 +15,13 @@ use Rattle.peel.proofs.listing.list_all.Statement.{statement}
 use Rattle.peel.proofs.listing.list_all.Tie as tie
 
 abbrev Inv-loop : tie.InvT-loop
-Inv-loop xs ys corners mate kept₀ rim₀ least₀ peeled₀ area₀ queue₀ longs₀ waiting₀ tally₀ shortest₀ count₀ kept rim least peeled area queue longs waiting tally shortest count =
+Inv-loop xs ys corners mate kept₀ rim₀ least₀ peeled₀ area₀ queue₀ keys₀ waiting₀ tally₀ shortest₀ count₀ kept rim least peeled area queue keys waiting tally shortest count =
     Drawing (office xs ys corners) 0 mate kept₀ rim₀ (tally₀ .peeled) kept rim (tally .peeled) (tally .area) (tally .ring)
     × Noting (office xs ys corners) (entries-on (office xs ys corners) kept₀ (tally₀ .peeled)) kept (tally .peeled) shortest count least₀ peeled₀ area₀ least peeled area
-    × Queued (office xs ys corners) (front corners kept) queue longs waiting
+    × Queued (office xs ys corners) (front corners kept) queue keys waiting
 
 abbrev μ-loop : tie.MeasureT-loop
-μ-loop xs ys corners mate kept₀ rim₀ least₀ peeled₀ area₀ queue₀ longs₀ waiting₀ tally₀ shortest₀ count₀ kept rim least peeled area queue longs waiting tally shortest count =
+μ-loop xs ys corners mate kept₀ rim₀ least₀ peeled₀ area₀ queue₀ keys₀ waiting₀ tally₀ shortest₀ count₀ kept rim least peeled area queue keys waiting tally shortest count =
     length corners / 3 - tally .peeled
 
 -- nothing is left: the last entry has its place

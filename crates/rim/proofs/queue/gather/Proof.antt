@@ -9,10 +9,10 @@ use Rattle.rim.proofs.queue.gather.Statement.{statement}
 use Rattle.rim.proofs.queue.gather.Tie as tie
 
 abbrev Inv-loop : tie.InvT-loop
-Inv-loop xs ys corners mate kept queue₀ longs₀ n₀ s₀ queue longs n s = Gathering (office xs ys corners) (front corners kept) queue longs n s
+Inv-loop xs ys corners mate kept queue₀ keys₀ n₀ s₀ queue keys n s = Gathering (office xs ys corners) (front corners kept) queue keys n s
 
 abbrev μ-loop : tie.MeasureT-loop
-μ-loop xs ys corners mate kept queue₀ longs₀ n₀ s₀ queue longs n s = length corners - s
+μ-loop xs ys corners mate kept queue₀ keys₀ n₀ s₀ queue keys n s = length corners - s
 
 is-rim-requires : tie.Need-is-rim-requires Inv-loop μ-loop
 is-rim-requires c κs = let p = c .before .before .before .before .before .before .pre in let a = p .0 .0 in ((a .single, a .corners-bound .1, a .corners-bound .2, c .loop-test .taken, p .0 .1), p .1)
@@ -23,7 +23,7 @@ push-requires c κs =
     let at = r .before .before in
     let p = at .before .before .before .before .before .pre in
     let l = r .before .loop-test .taken in
-    ((p .0 .0, takes-fits _ _ _ _ _ _ _ _ (at .loop .inv) l (r .is-rim .ensures) (c .before .before .before .if1 .taken) (p .0 .2), at .loop .inv .heap), (l, c .before .before .side-squared .ensures))
+    ((p .0 .0, takes-fits _ _ _ _ _ _ _ _ (at .loop .inv) l (r .is-rim .ensures) (c .before .before .before .if1 .taken) (p .0 .2), at .loop .inv .heap), (l, c .before .before .key-of .ensures))
 
 add-n : tie.Need-add-n Inv-loop μ-loop
 add-n c =

@@ -2,8 +2,8 @@
 use mathlib.Core.Path.{refl, sym, _∙_}
 use native.Mathlib.Omega.{arith}
 use borrow.Author.Needs.{needs}
-use Rattle.rim.proofs.Ranked.{up, not-up, level-first}
-use Rattle.rim.proofs.Sinking.{leads-alone, leads-first, leads-second, leads-longer}
+use Rattle.rim.proofs.Ranked.{up, not-up, by-seconds}
+use Rattle.rim.proofs.Sinking.{leads-alone, leads-first, leads-second, leads-greater}
 use Rattle.rim.proofs.queue.leader.Statement.{statement}
 use Rattle.rim.proofs.queue.leader.Tie as tie
 
@@ -11,13 +11,13 @@ returns : tie.Need-returns
 returns c = leads-alone (c .before .before .before .before .pre .1) (omega arith)
 
 returns-2 : tie.Need-returns-2
-returns-2 c = let e = c .before .before .before .before in let p = e .before .before .before .before .pre in leads-longer (p .0) (p .3) (e .if1 .left) (c .before .if2 .taken) (c .one-if .ensures .0) refl
+returns-2 c = let e = c .before .before .before .before in let p = e .before .before .before .before .pre in leads-greater (p .0) (p .3) (e .if1 .left) (c .before .if2 .taken) (c .one-if .ensures .0) refl
 
-ends-before-requires : tie.Need-ends-before-requires
-ends-before-requires c κs = let e = c .before .before .before .before .before in let p = e .before .before .before .before .pre in (p .0, p .3 .known _ (e .if1 .left), p .3 .known _ (p .1))
+second-before-requires : tie.Need-second-before-requires
+second-before-requires c κs = let e = c .before .before .before .before .before in let p = e .before .before .before .before .pre in (p .0, p .3 .known _ (e .if1 .left), p .3 .known _ (p .1))
 
--- two sides of one length
-module _ (c : tie.After-ends-before) where
+-- two sides of one key
+module _ (c : tie.After-second-before) where
   abbrev e : tie.Else1
   e = c .before .before .before .before .before .before
 
@@ -28,13 +28,13 @@ returns-3 : tie.Need-returns-3
 returns-3 c =
     let d = c .before in
     let p = b d .pre in
-    leads-second (e d .if1 .left) (up (level-first (p .0) _ _ (p .3 .known _ (e d .if1 .left)) (p .3 .known _ (p .1)) (sym (p .3 .measured _ (p .1)) ∙ d .before .before .before .if2 .left ∙ p .3 .measured _ (e d .if1 .left)) (d .ends-before .ensures)) (c .if3 .taken))
+    leads-second (e d .if1 .left) (up (by-seconds (p .0) _ _ (p .3 .known _ (e d .if1 .left)) (p .3 .known _ (p .1)) (sym (p .3 .measured _ (p .1)) ∙ d .before .before .before .if2 .left ∙ p .3 .measured _ (e d .if1 .left)) (d .second-before .ensures)) (c .if3 .taken))
 
 returns-4 : tie.Need-returns-4
 returns-4 c =
     let d = c .before in
     let p = b d .pre in
-    leads-first (e d .if1 .left) (not-up (level-first (p .0) _ _ (p .3 .known _ (e d .if1 .left)) (p .3 .known _ (p .1)) (sym (p .3 .measured _ (p .1)) ∙ d .before .before .before .if2 .left ∙ p .3 .measured _ (e d .if1 .left)) (d .ends-before .ensures)) (c .if3 .left))
+    leads-first (e d .if1 .left) (not-up (by-seconds (p .0) _ _ (p .3 .known _ (e d .if1 .left)) (p .3 .known _ (p .1)) (sym (p .3 .measured _ (p .1)) ∙ d .before .before .before .if2 .left ∙ p .3 .measured _ (e d .if1 .left)) (d .second-before .ensures)) (c .if3 .left))
 
 pub leader-spec : {M : Type 1} → statement M
 leader-spec =
@@ -53,6 +53,6 @@ leader-spec =
     (λ c. search needs)
     (λ c. search needs)
     (λ c. search needs)
-    ends-before-requires
+    second-before-requires
     returns-3
     returns-4)

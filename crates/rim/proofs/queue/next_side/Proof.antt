@@ -1,20 +1,20 @@
 -- `rim::queue::next_side` meets its contract. Assumes nothing.
-use mathlib.Core.Path.{refl}
 use Prim.Native.Nat.{_≤_}
 use native.Mathlib.Omega.{arith}
 use borrow.Author.Needs.{needs}
 use Rattle.sheet.specs.Office.{office}
 use Rattle.rim.specs.Code.{front}
 use Rattle.rim.specs.Heap.{Queued}
+use Rattle.rim.proofs.Ranked.{key-low}
 use Rattle.rim.proofs.Queueing.{nothing-waits, side-there, third-there, mark-there, found, drops-first}
 use Rattle.rim.proofs.queue.next_side.Statement.{statement}
 use Rattle.rim.proofs.queue.next_side.Tie as tie
 
 abbrev Inv-loop : tie.InvT-loop
-Inv-loop xs ys corners mate kept rim queue₀ longs₀ waiting n₀ queue longs n = Queued (office xs ys corners) (front corners kept) queue longs n × (n ≤ 1024)
+Inv-loop xs ys corners mate kept rim queue₀ keys₀ waiting n₀ queue keys n = Queued (office xs ys corners) (front corners kept) queue keys n × (n ≤ 1024)
 
 abbrev μ-loop : tie.MeasureT-loop
-μ-loop xs ys corners mate kept rim queue₀ longs₀ waiting n₀ queue longs n = n
+μ-loop xs ys corners mate kept rim queue₀ keys₀ waiting n₀ queue keys n = n
 
 -- the first side is read
 module _ (c : tie.After-wide Inv-loop μ-loop) where
@@ -29,9 +29,9 @@ module _ (c : tie.After-wide Inv-loop μ-loop) where
 
 returns : tie.Need-returns Inv-loop μ-loop
 returns c =
-    let t = c .before in
+    let t = c .before .before in
     let w = t .before .before .before .before in
-    found (b w .pre .0) (at w .loop .inv .0) (turn w .loop-test .taken) (w .wide .ensures) (t .before .before .wide2 .ensures) (t .if1 .taken) refl
+    found (b w .pre .0) (at w .loop .inv .0) (turn w .loop-test .taken) (w .wide .ensures) (t .before .before .wide2 .ensures) (t .if1 .taken) (c .length-of .ensures)
 
 drop-first-requires : tie.Need-drop-first-requires Inv-loop μ-loop
 drop-first-requires c κs =
@@ -60,6 +60,9 @@ next-side-spec =
     (λ c κs. search needs)
     (λ c. mark-there (b (c .before .before .before) .pre .0) (at (c .before .before .before) .loop .inv .0) (turn (c .before .before .before) .loop-test .taken) (c .before .before .before .wide .ensures) (c .before .wide2 .ensures))
     (λ c. omega (arith, at (c .before .before .before .before) .loop .inv .0 .heap .size))
+    (λ c κs.
+    let w = c .before .before .before .before .before in
+    omega (arith, at w .loop .inv .0 .heap .measured 0 (turn w .loop-test .taken), key-low (b w .pre .0 .acceptable) _ (at w .loop .inv .0 .heap .known 0 (turn w .loop-test .taken))))
     returns
     drop-first-requires
     (λ c. omega arith)

@@ -9,10 +9,10 @@ use Rattle.rim.proofs.queue.push.Statement.{statement}
 use Rattle.rim.proofs.queue.push.Tie as tie
 
 abbrev Inv-loop : tie.InvT-loop
-Inv-loop xs ys corners queue₀ longs₀ n s long i₀ queue longs i = Rising (office xs ys corners) queue₀ queue longs n s i
+Inv-loop xs ys corners queue₀ keys₀ n s key i₀ queue keys i = Rising (office xs ys corners) queue₀ queue keys n s i
 
 abbrev μ-loop : tie.MeasureT-loop
-μ-loop xs ys corners queue₀ longs₀ n s long i₀ queue longs i = i
+μ-loop xs ys corners queue₀ keys₀ n s key i₀ queue keys i = i
 
 loop-holds : tie.Need-loop-holds Inv-loop μ-loop
 loop-holds c = let b = c .before .before .before in rise-begins (b .pre .0 .1) (b .pre .1 .0) (b .pre .0 .2)

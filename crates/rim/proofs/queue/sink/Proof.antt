@@ -10,10 +10,10 @@ use Rattle.rim.proofs.queue.sink.Statement.{statement}
 use Rattle.rim.proofs.queue.sink.Tie as tie
 
 abbrev Inv-loop : tie.InvT-loop
-Inv-loop xs ys corners queue₀ longs₀ m s long i₀ c₀ queue longs i c = Sinking (office xs ys corners) queue₀ queue longs m s i c
+Inv-loop xs ys corners queue₀ keys₀ m s key i₀ c₀ queue keys i c = Sinking (office xs ys corners) queue₀ queue keys m s i c
 
 abbrev μ-loop : tie.MeasureT-loop
-μ-loop xs ys corners queue₀ longs₀ m s long i₀ c₀ queue longs i c = m - i
+μ-loop xs ys corners queue₀ keys₀ m s key i₀ c₀ queue keys i c = m - i
 
 loop-holds : tie.Need-loop-holds Inv-loop μ-loop
 loop-holds c = let b = c .before .before .before in sink-begins (b .pre .0 .1) (b .pre .0 .2) (b .pre .1 .0) (b .pre .0 .3)

@@ -3,6 +3,7 @@ use Prim.Native.Nat.{ℕ, _/_, _<_, _≤_}
 use native.Mathlib.Omega.{arith}
 use borrow.Author.Needs.{needs}
 use lib.IntN.{natAbs}
+use lib.ListN.{length-set}
 use Rattle.sheet.specs.Office.{Office, points, sides, triangles, apex, area, office}
 use Rattle.rim.proofs.Stepping.{nothing-left, nothing-above, side-there, triangle-there, third-there, area-there, peels-there, ring-there, peels-one}
 use Rattle.rim.proofs.Joining.{all-fit, some-wait, one-more-fits, outward-there, inward-there, queued-after}
@@ -50,19 +51,19 @@ module _ (c : tie.Else1) where
 
 join-requires : tie.Need-join-requires
 join-requires c κs =
-    let d = c .before .before .before .before in
+    let d = c .before .before .before .before .before in
     let n = d .before .before .before .before .next-side .ensures in
     let f = d .before .before .found .given .1 in
     let p = b d .pre .0 in
-    ((p .held .acceptable, some-wait p n f, one-more-fits p n f, n .queued .heap), (below d, outward-there p n f, inward-there p n f))
+    ((p .held .acceptable, some-wait p n f, one-more-fits p n f, n .queued .heap, simp length-set (p .held .places)), (below d, outward-there p n f, inward-there p n f))
 
 returns-3 : tie.Need-returns-3
 returns-3 c =
-    let d = c .before .before .before .before .before .before .before .before in
+    let d = c .before .before .before .before .before .before .before .before .before in
     let n = d .before .before .before .before .next-side .ensures in
     let f = d .before .before .found .given .1 in
     let p = b d .pre .0 in
-    (peels-one _ _ _ _ _ _ _ _ p _ _ (n .is-best) f (d .if1 .left) (c .before .before .before .before .before .before .before .area-of .ensures) (c .after-peel .ensures), queued-after p n f (c .before .before .before .join .ensures))
+    (peels-one _ _ _ _ _ _ _ _ p _ _ (n .is-best) f (d .if1 .left) (c .before .before .before .before .before .before .before .before .area-of .ensures) (c .after-peel .ensures), queued-after p n f (c .before .before .before .join .ensures))
 
 pub step-spec : {M : Type 1} → statement M
 step-spec =
@@ -87,10 +88,9 @@ step-spec =
     (λ c. omega (arith, triangle (c .before .before), b (c .before .before) .pre .0 .held .room))
     (λ c. omega (arith, third (c .before .before), b (c .before .before) .pre .0 .held .places))
     join-requires
-    (λ c. omega (arith, areas (c .before .before .before .before .before .before), c .before .before .before .before .before .area-of .ensures))
-    (λ c. omega (arith, ring (c .before .before .before .before .before .before .before), b (c .before .before .before .before .before .before .before) .pre .0 .held .acceptable .points-bound))
-    (λ c κs. omega (arith, count (c .before .before .before .before .before .before .before), b (c .before .before .before .before .before .before .before) .pre .0 .held .acceptable .corners-bound))
-    (λ c. let d = c .before .before .before .before .before .before .before .before in omega (arith, one-more-fits (b d .pre .0) (d .before .before .before .before .next-side .ensures) (d .before .before .found .given .1)))
+    (λ c. omega (arith, areas (c .before .before .before .before .before .before .before), c .before .before .before .before .before .before .area-of .ensures))
+    (λ c. omega (arith, ring (c .before .before .before .before .before .before .before .before), b (c .before .before .before .before .before .before .before .before) .pre .0 .held .acceptable .points-bound))
+    (λ c κs. omega (arith, count (c .before .before .before .before .before .before .before .before), b (c .before .before .before .before .before .before .before .before) .pre .0 .held .acceptable .corners-bound))
     (λ c. search needs)
     (λ c. search needs)
     returns-3)
