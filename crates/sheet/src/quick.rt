@@ -1,5 +1,5 @@
 // Acceptance by a look at neighbours alone: where these hold, no point needs a test against every circle and every rim side. No public call.
-use super::circles::weighted;
+use super::circles::holds;
 use super::plane::turn;
 use super::plane::wide;
 use super::ring::is_rim;
@@ -7,9 +7,9 @@ use super::ring::leaving;
 use super::spots::corner_at;
 ghost use mathlib.Core.Path.{_≡_};
 ghost use mathlib.Core.Bool.{true, false, not, _&&_, _||_};
-ghost use Prim.Native.Nat.{_+_, _*_, _<_, _≤_};
+ghost use Prim.Native.Nat.{_+_, _*_, _<_};
 ghost use lib.Dec.{ltb};
-ghost use lib.IntN.{pos, natAbs};
+ghost use lib.IntN.{pos};
 ghost use lib.ListN.{length};
 ghost use lib.Signed.{ltZ};
 ghost use Rattle.sheet.specs.Plane.{spot, Small};
@@ -17,40 +17,6 @@ ghost use Rattle.sheet.specs.Plane as plane;
 ghost use Rattle.sheet.specs.Office.{office};
 ghost use Rattle.sheet.specs.Code.{Plotted, Mated};
 ghost use Rattle.sheet.specs.Quick.{Clear, AllClear, Smooth, AllSmooth, Neat};
-
-// The squared length of the way from one point to another.
-fn far(ax: u16, ay: u16, bx: u16, by: u16) -> i64
-    requires { ⌜ Small (spot ax ay) × Small (spot bx by) ⌝ }
-    ensures { λ r. ⌜ (r ≡ plane.squared (spot ax ay) (spot bx by)) × (natAbs r ≤ 536805378) ⌝ }
-{
-    (bx as i64 - ax as i64) * (bx as i64 - ax as i64)
-        + (by as i64 - ay as i64) * (by as i64 - ay as i64)
-}
-
-// Twice the signed area of a triangle.
-fn bend(ax: u16, ay: u16, bx: u16, by: u16, cx: u16, cy: u16) -> i64
-    requires { ⌜ Small (spot ax ay) × Small (spot bx by) × Small (spot cx cy) ⌝ }
-    ensures { λ r. ⌜ (r ≡ plane.turn (spot ax ay) (spot bx by) (spot cx cy)) × (natAbs r ≤ 536805378) ⌝ }
-{
-    (bx as i64 - ax as i64) * (cy as i64 - ay as i64)
-        - (by as i64 - ay as i64) * (cx as i64 - ax as i64)
-}
-
-// Whether d lies strictly inside the circle through a b c, from the differences to d.
-fn holds(ax: u16, ay: u16, bx: u16, by: u16, cx: u16, cy: u16, dx: u16, dy: u16) -> bool
-    requires { ⌜ Small (spot ax ay) × Small (spot bx by) × Small (spot cx cy) × Small (spot dx dy) ⌝ }
-    ensures { λ b. ⌜ b ≡ ltZ (pos 0) (plane.circle (spot ax ay) (spot bx by) (spot cx cy) (spot dx dy)) ⌝ }
-{
-    let value = weighted(
-        far(dx, dy, ax, ay),
-        bend(dx, dy, bx, by, cx, cy),
-        far(dx, dy, bx, by),
-        bend(dx, dy, cx, cy, ax, ay),
-        far(dx, dy, cx, cy),
-        bend(dx, dy, ax, ay, bx, by),
-    );
-    0 < value
-}
 
 // Whether the circle of side s's triangle holds the third corner beyond s, asked at the lower side of a pair.
 fn is_held(xs: &[u16], ys: &[u16], corners: &[u16], mate: &[u16; 6129], s: usize) -> bool

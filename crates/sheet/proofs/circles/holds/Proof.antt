@@ -1,4 +1,4 @@
--- `sheet::quick::holds` meets its contract: the circle's value as it is defined. Assumes nothing.
+-- `sheet::circles::holds` meets its contract: the circle's value as it is defined. Assumes nothing.
 use mathlib.Core.Path.{ap, _∙_}
 use lib.IntN.{pos}
 use lib.Signed.{ltZ}
@@ -6,8 +6,8 @@ use mir.Facts.{toZ-ofZ}
 use borrow.Author.Needs.{needs}
 use Rattle.sheet.specs.Plane.{circle}
 use Rattle.sheet.proofs.Linear.{got, weighed}
-use Rattle.sheet.proofs.quick.holds.Statement.{statement}
-use Rattle.sheet.proofs.quick.holds.Tie as tie
+use Rattle.sheet.proofs.circles.holds.Statement.{statement}
+use Rattle.sheet.proofs.circles.holds.Tie as tie
 
 returns : tie.Need-returns
 unfolding circle
