@@ -6,6 +6,7 @@ ghost use lib.IntN.{pos, natAbs};
 ghost use lib.Signed.{_<ℤ_};
 ghost use Rattle.sheet.specs.Plane.{spot, Small};
 ghost use Rattle.sheet.specs.Plane as plane;
+ghost use Rattle.sheet.specs.Code as Code;
 
 pub fn wide(x: u16) -> usize
     ensures { λ r. ⌜ r ≡ x ⌝ }
@@ -30,6 +31,15 @@ pub fn turn(ax: u16, ay: u16, bx: u16, by: u16, cx: u16, cy: u16) -> i32
 {
     (bx as i32 - ax as i32) * (cy as i32 - ay as i32)
         - (by as i32 - ay as i32) * (cx as i32 - ax as i32)
+}
+
+// The product of the ways from p to a and to b: positive where they make an acute angle. No product is above 16,383², the sum not above 2 · 16,383².
+pub fn dot(px: u16, py: u16, ax: u16, ay: u16, bx: u16, by: u16) -> i32
+    requires { ⌜ Small (spot px py) × Small (spot ax ay) × Small (spot bx by) ⌝ }
+    ensures { λ r. ⌜ r ≡ Code.dot (spot px py) (spot ax ay) (spot bx by) ⌝ }
+{
+    (ax as i32 - px as i32) * (bx as i32 - px as i32)
+        + (ay as i32 - py as i32) * (by as i32 - py as i32)
 }
 
 // Twice the area of a triangle whose corners run counterclockwise.
