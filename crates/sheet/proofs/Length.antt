@@ -26,10 +26,10 @@ square : (z : ℤ) → z *ℤ z ≡ pos (natAbs z * natAbs z)
 square (pos n) = refl
 square (negsuc n) = refl
 
--- the squared length by the sizes of the two gaps
-pub squared-is : (a b : Point) → natAbs (squared a b) ≡ natAbs (dx a b) * natAbs (dx a b) + natAbs (dy a b) * natAbs (dy a b)
+-- a squared length is no negative number
+pub squared-whole : (a b : Point) → pos (natAbs (squared a b)) ≡ squared a b
 unfolding squared
-squared-is a b = ap natAbs (ap₂ _+ℤ_ (square (dx a b)) (square (dy a b)))
+squared-whole a b = let e = ap₂ _+ℤ_ (square (dx a b)) (square (dy a b)) in ap (λ z. pos (natAbs z)) e ∙ sym e
 
 none : (z : ℤ) → natAbs z * natAbs z ≡ 0 → z ≡ pos 0
 none (pos zero) e = refl

@@ -16,6 +16,7 @@ pub mod Again
 pub mod Pairing
 pub mod Handed
 pub mod Linear
+pub mod Angles
 pub mod Hull
 pub mod Length
 pub mod Sign

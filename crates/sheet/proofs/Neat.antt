@@ -1,21 +1,24 @@
 -- What the quick tests answer for: an office that passes them and the refusals 1 to 10 and 12 is accepted. Assumes nothing.
 use mathlib.Core.Path.{_≡_, refl, sym, subst, _∙_}
+use mathlib.Core.Logic.{inl, inr}
 use mathlib.Core.Bool.{Bool, true, false, not, _&&_, _||_}
-use Prim.Native.Nat.{ℕ, _+_, _*_, _<_}
+use Prim.Native.Nat.{ℕ, _+_, _*_, _/_, _%_, _<_}
 use native.Mathlib.Decide.{ℕ-discrete}
 use native.Mathlib.Omega.{arith}
 use lib.Dec.{ltb, eqb}
-use lib.IntN.{pos}
+use lib.IntN.{ℤ, pos}
 use lib.Signed.{_<ℤ_, ltZ}
 use Rattle.laws.specs.Round.{Round}
 use Rattle.laws.proofs.Test.{plain, first-of, not-iff, neither-iff, and-iff, false-iff, ltb-iff, eqb-iff, less-iff}
 use Rattle.sheet.specs.Plane.{spot, turn, circle}
-use Rattle.sheet.specs.Office.{Office, sides, point, tail, head, apex, reverse, rim, mate-of, one-ring, rims}
+use Rattle.sheet.specs.Office.{Office, sides, triangles, next, last, point, tail, head, apex, reverse, rim, mate-of, one-ring, rims}
 use Rattle.sheet.specs.Acceptable.{Left, Single, Used, Rim, Along}
 use Rattle.sheet.specs.Verdict.{accepted, rim-verdict}
 use Rattle.sheet.specs.Code.{Plotted, At}
-use Rattle.sheet.specs.Quick.{Ringed, Half, Convex, Clear, AllClear, Smooth, AllSmooth, Neat, Goes, Onward, key}
+use Rattle.sheet.specs.Quick.{Ringed, Half, Convex, Clear, Clears, AllClear, Cornering, Smooth, AllSmooth, Neat, Goes, Onward, key}
 use Rattle.sheet.proofs.AtPoint.{spot-at}
+use Rattle.sheet.proofs.Side.{Place, place}
+use Rattle.sheet.proofs.Rotate.{turn-rotates}
 use Rattle.sheet.proofs.Rim.{rim-iff}
 use Rattle.sheet.proofs.Cancel.{differ}
 use Rattle.sheet.proofs.Tiled.{parted-of}
@@ -58,6 +61,29 @@ module _ (o : Office) (s r : ℕ) where
           | no n ↦ absurd (false-iff .0 (g .1) (and-iff .1 (and-iff .1 (ltb-iff .1 (key-below b a u), ltb-iff .1 (key-below b c v)), not-iff .1 (λ t. n (eqb-iff .0 t)))))
         ];
       }
+
+-- the three corners of triangle t, from each of its sides on
+module _ (o : Office) (t : ℕ) {area : ℤ} {ax ay bx by cx cy : ℕ} (a : At o (tail o (t * 3)) ax ay) (b : At o (tail o (t * 3 + 1)) bx by) (c : At o (tail o (t * 3 + 2)) cx cy) (e : area ≡ turn (spot ax ay) (spot bx by) (spot cx cy)) where
+  moved : {i x y : ℕ} (j : ℕ) → i ≡ j → At o (tail o i) x y → At o (tail o j) x y
+  moved {i} {x} {y} j f h = subst (λ k. At o (tail o k) x y) f h
+
+  pub first-cornering : Cornering o (t * 3) area ax ay bx by cx cy
+  first-cornering = record { from = a; to = moved (next (t * 3)) (omega arith) b; third = moved (last (t * 3)) (omega arith) c; turns = e }
+
+  pub second-cornering : Cornering o (t * 3 + 1) area bx by cx cy ax ay
+  second-cornering = record { from = b; to = moved (next (t * 3 + 1)) (omega arith) c; third = moved (last (t * 3 + 1)) (omega arith) a; turns = e ∙ turn-rotates _ _ _ }
+
+  pub third-cornering : Cornering o (t * 3 + 2) area cx cy ax ay bx by
+  third-cornering = record { from = c; to = moved (next (t * 3 + 2)) (omega arith) a; third = moved (last (t * 3 + 2)) (omega arith) b; turns = e ∙ turn-rotates _ _ _ ∙ turn-rotates _ _ _ }
+
+-- each side is one of its triangle's three
+pub all-clear : (o : Office) → sides o % 3 ≡ 0 → ((t : ℕ) → t < triangles o → Clears o t) → AllClear o
+all-clear o whole clears s l = step (place s) (clears (s / 3) (omega arith))
+  where
+    step : Place s → Clears o (s / 3) → Clear o s
+    step (inl h) (x, y, z) = subst (Clear o) (sym h) x
+    step (inr (inl h)) (x, y, z) = subst (Clear o) (sym h) y
+    step (inr (inr h)) (x, y, z) = subst (Clear o) (sym h) z
 
 pub not-rim : (o : Office) (s : ℕ) {bared : Bool} {A : Type 0} → bared ≡ rim o s → not bared ≡ true → Rim o s → A
 not-rim o s e f x = absurd (not-iff .0 f (e ∙ rim-iff o s .1 x))

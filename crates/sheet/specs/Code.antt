@@ -100,6 +100,10 @@ raised a = pos (a .x * a .x + a .y * a .y)
 abbrev pub swept : Point → Point → ℤ
 swept a b = pos (a .x) *ℤ pos (b .y) -ℤ pos (b .x) *ℤ pos (a .y)
 
+-- the product of the ways from p to a and to b
+abbrev pub dot : Point → Point → Point → ℤ
+dot p a b = dx p a *ℤ dx p b +ℤ dy p a *ℤ dy p b
+
 -- the in-circle value of the triangle a b c at (x, y) is across x + up y + rest - lift (x² + y²)
 pub record Coefficients (a b c : Point) (across up rest lift : ℤ) : Type 0 where
   pub across-is : across ≡ raised a *ℤ dy c b +ℤ raised b *ℤ dy a c +ℤ raised c *ℤ dy b a

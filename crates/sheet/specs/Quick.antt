@@ -1,12 +1,13 @@
 -- What makes an office acceptable by a look at neighbours alone, after the refusals 1 to 10 and 12. Assumes nothing.
 use mathlib.Core.Path.{_≡_}
 use Prim.Native.Nat.{ℕ, _+_, _*_, _%_, _<_, _≤_}
-use lib.IntN.{pos}
+use lib.IntN.{ℤ, pos}
 use lib.Signed.{_<ℤ_}
 use lib.ListN.{getD}
 use Rattle.laws.specs.Round.{Round}
-use Rattle.sheet.specs.Plane.{Point, turn, circle}
+use Rattle.sheet.specs.Plane.{Point, spot, turn, circle}
 use Rattle.sheet.specs.Office.{Office, points, sides, point, tail, head, apex, mate-of}
+use Rattle.sheet.specs.Code.{At}
 use Rattle.sheet.specs.Acceptable.{Left, Single, Used, Reverse, Rim, Along}
 
 -- what these refusals leave, but for the lists' lengths
@@ -42,6 +43,17 @@ Half o = (s r : ℕ) → s < r → r < sides o → Reverse o s r → pos 0 <ℤ 
 abbrev pub Clear : Office → ℕ → Type 0
 Clear o s = s < mate-of (o .corners) s → mate-of (o .corners) s < sides o
     → pos 0 <ℤ circle (point o (tail o s)) (point o (head o s)) (point o (apex o s)) (point o (apex o (mate-of (o .corners) s))) → ⊥
+
+-- of each side of triangle t
+abbrev pub Clears : Office → ℕ → Type 0
+Clears o t = Clear o (t * 3) × Clear o (t * 3 + 1) × Clear o (t * 3 + 2)
+
+-- the coordinates and the doubled area of the triangle of side s, from that side on
+pub record Cornering (o : Office) (s : ℕ) (area : ℤ) (ax ay bx by cx cy : ℕ) : Type 0 where
+  pub from : At o (tail o s) ax ay
+  pub to : At o (head o s) bx by
+  pub third : At o (apex o s) cx cy
+  pub turns : area ≡ turn (spot ax ay) (spot bx by) (spot cx cy)
 
 pub record Goes (o : Office) (lowest s : ℕ) : Type 0 where
   pub side : ℕ

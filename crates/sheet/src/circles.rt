@@ -1,4 +1,5 @@
 // Refusal 11: a point strictly inside a triangle's circle. No public call.
+use super::plane::dot;
 use super::plane::turn;
 use super::spots::corner_at;
 use super::spots::point_at;
@@ -9,6 +10,7 @@ ghost use lib.ListN.{length, take};
 ghost use lib.Signed.{ltZ};
 ghost use Rattle.laws.specs.First.{first, table};
 ghost use Rattle.sheet.specs.Plane.{spot, Small};
+ghost use Rattle.sheet.specs.Plane as plane;
 ghost use Rattle.sheet.specs.Office.{office, invaded};
 ghost use Rattle.sheet.specs.Code.{Plotted, height, Coefficients, linear};
 
@@ -21,12 +23,49 @@ pub struct Circle {
 }
 
 // a b c of at most 2 · 16,383² each, as weights: no sum is above 3 · (2 · 16,383²)².
-pub fn weighted(a: i64, u: i64, b: i64, v: i64, c: i64, w: i64) -> i64
+fn weighted(a: i64, u: i64, b: i64, v: i64, c: i64, w: i64) -> i64
     requires { ⌜ (natAbs a ≤ 536805378) × (natAbs b ≤ 536805378) × (natAbs c ≤ 536805378) ⌝ }
     requires { ⌜ (natAbs u ≤ 536805378) × (natAbs v ≤ 536805378) × (natAbs w ≤ 536805378) ⌝ }
     ensures { λ r. ⌜ r ≡ a *ℤ u +ℤ b *ℤ v +ℤ c *ℤ w ⌝ }
 {
     a * u + b * v + c * w
+}
+
+// Twice a signed area, widened for products.
+fn bend(ax: u16, ay: u16, bx: u16, by: u16, cx: u16, cy: u16) -> i64
+    requires { ⌜ Small (spot ax ay) × Small (spot bx by) × Small (spot cx cy) ⌝ }
+    ensures { λ r. ⌜ (r ≡ plane.turn (spot ax ay) (spot bx by) (spot cx cy)) × (natAbs r ≤ 536805378) ⌝ }
+{
+    turn(ax, ay, bx, by, cx, cy) as i64
+}
+
+// Whether a u + b v is negative: no sum is above 2 · (2 · 16,383²)².
+fn is_below(a: i32, u: i32, b: i32, v: i32) -> bool
+    requires { ⌜ (natAbs a ≤ 536805378) × (natAbs u ≤ 536805378) × (natAbs b ≤ 536805378) × (natAbs v ≤ 536805378) ⌝ }
+    ensures { λ r. ⌜ r ≡ ltZ (a *ℤ u +ℤ b *ℤ v) (pos 0) ⌝ }
+{
+    let sum = a as i64 * u as i64 + b as i64 * v as i64;
+    sum < 0
+}
+
+// Whether d lies strictly inside the circle through a b c, whose doubled area is at hand: by the angles at c and at d over a b.
+pub fn holds(
+    area: i32,
+    ax: u16,
+    ay: u16,
+    bx: u16,
+    by: u16,
+    cx: u16,
+    cy: u16,
+    dx: u16,
+    dy: u16,
+) -> bool
+    requires { ⌜ Small (spot ax ay) × Small (spot bx by) × Small (spot cx cy) × Small (spot dx dy) × (area ≡ plane.turn (spot ax ay) (spot bx by) (spot cx cy)) ⌝ }
+    ensures { λ b. ⌜ b ≡ ltZ (pos 0) (plane.circle (spot ax ay) (spot bx by) (spot cx cy) (spot dx dy)) ⌝ }
+{
+    let near = dot(cx, cy, ax, ay, bx, by);
+    let beyond = dot(dx, dy, ax, ay, bx, by);
+    is_below(near, turn(dx, dy, bx, by, ax, ay), area, beyond)
 }
 
 fn gap(a: u16, b: u16) -> i64
@@ -75,7 +114,7 @@ fn circle_through(ax: u16, ay: u16, bx: u16, by: u16, cx: u16, cy: u16) -> Circl
         c,
         cross(ax, ay, bx, by),
     );
-    let lift = turn(ax, ay, bx, by, cx, cy) as i64;
+    let lift = bend(ax, ay, bx, by, cx, cy);
     Circle {
         across: across,
         up: up,

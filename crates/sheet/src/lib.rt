@@ -15,6 +15,7 @@ use points::first_large;
 use quick::is_neat;
 use ring::first_outer;
 use ring::is_one_ring;
+use ring::leaving;
 use ring::rim_length;
 use sides::chain_sides;
 use sides::pair_sides;
@@ -158,9 +159,9 @@ fn check_sides(xs: &[u16], ys: &[u16], corners: &[u16], mate: &mut [u16; 6129]) 
     ensures { λ r. ⌜ answer r ≡ sides-verdict (office (now (xs .entry)) (now (ys .entry)) (now (corners .entry))) ⌝ }
     ensures { λ r. ⌜ Ready (answer r) (now (corners .entry)) (now (mate .entry)) (now (mate .exit)) ⌝ }
 {
-    let chain = chain_sides(corners);
-    let earlier = chain.earlier;
-    let latest = chain.latest;
+    let mut earlier = [65535u16; 6129];
+    let mut latest = [65535u16; 1024];
+    chain_sides(corners, &mut earlier, &mut latest);
     let single = pair_sides(corners, &earlier, &latest, mate);
     if !single {
         return refused(9, first_double(corners, &earlier));
@@ -178,8 +179,9 @@ fn check_rim(xs: &[u16], ys: &[u16], corners: &[u16], mate: &[u16; 6129]) -> Che
     ensures { λ r. ⌜ answer r ≡ rim-verdict (office (now (xs .entry)) (now (ys .entry)) (now (corners .entry))) ⌝ }
 {
     let rim = rim_length(corners, mate);
-    let one = is_one_ring(corners, mate, rim);
-    let neat = is_neat(xs, ys, corners, mate);
+    let onward = leaving(corners, mate);
+    let one = is_one_ring(corners, mate, &onward, rim);
+    let neat = is_neat(xs, ys, corners, mate, &onward);
     if one & neat {
         return Checked::Accepted(rim);
     }

@@ -2,10 +2,11 @@
 ghost use mathlib.Core.Path.{_≡_};
 ghost use Prim.Native.Nat.{_<_};
 ghost use lib.ListN.{length, getD};
-ghost use lib.IntN.{pos, natAbs, _-ℤ_};
+ghost use lib.IntN.{pos, natAbs};
 ghost use lib.Signed.{_<ℤ_};
 ghost use Rattle.sheet.specs.Plane.{spot, Small};
 ghost use Rattle.sheet.specs.Plane as plane;
+ghost use Rattle.sheet.specs.Code as Code;
 
 pub fn wide(x: u16) -> usize
     ensures { λ r. ⌜ r ≡ x ⌝ }
@@ -13,24 +14,14 @@ pub fn wide(x: u16) -> usize
     x as usize
 }
 
-pub fn apart(a: u16, b: u16) -> u32
-    ensures { λ r. ⌜ r ≡ natAbs (pos b -ℤ pos a) ⌝ }
-{
-    if a < b {
-        (b - a) as u32
-    } else {
-        (a - b) as u32
-    }
-}
-
-// The squared length of the way from one point to another.
+// The squared length of the way from one point to another: no product is above 16,383², the sum not above 2 · 16,383².
 pub fn squared(ax: u16, ay: u16, bx: u16, by: u16) -> u32
     requires { ⌜ Small (spot ax ay) × Small (spot bx by) ⌝ }
     ensures { λ r. ⌜ r ≡ natAbs (plane.squared (spot ax ay) (spot bx by)) ⌝ }
 {
-    let x = apart(ax, bx);
-    let y = apart(ay, by);
-    x * x + y * y
+    let x = bx as i32 - ax as i32;
+    let y = by as i32 - ay as i32;
+    (x * x + y * y) as u32
 }
 
 // Twice the signed area of a triangle, from the differences to its first corner: no product is above 16,383², no sum above 2 · 16,383².
@@ -40,6 +31,15 @@ pub fn turn(ax: u16, ay: u16, bx: u16, by: u16, cx: u16, cy: u16) -> i32
 {
     (bx as i32 - ax as i32) * (cy as i32 - ay as i32)
         - (by as i32 - ay as i32) * (cx as i32 - ax as i32)
+}
+
+// The product of the ways from p to a and to b: positive where they make an acute angle. No product is above 16,383², the sum not above 2 · 16,383².
+pub fn dot(px: u16, py: u16, ax: u16, ay: u16, bx: u16, by: u16) -> i32
+    requires { ⌜ Small (spot px py) × Small (spot ax ay) × Small (spot bx by) ⌝ }
+    ensures { λ r. ⌜ r ≡ Code.dot (spot px py) (spot ax ay) (spot bx by) ⌝ }
+{
+    (ax as i32 - px as i32) * (bx as i32 - px as i32)
+        + (ay as i32 - py as i32) * (by as i32 - py as i32)
 }
 
 // Twice the area of a triangle whose corners run counterclockwise.

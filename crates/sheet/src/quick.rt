@@ -1,74 +1,63 @@
 // Acceptance by a look at neighbours alone: where these hold, no point needs a test against every circle and every rim side. No public call.
-use super::circles::weighted;
+use super::circles::holds;
 use super::plane::turn;
 use super::plane::wide;
 use super::ring::is_rim;
-use super::ring::leaving;
+use super::sides::last_of;
+use super::sides::next_of;
+use super::spots::Spot;
 use super::spots::corner_at;
 ghost use mathlib.Core.Path.{_≡_};
 ghost use mathlib.Core.Bool.{true, false, not, _&&_, _||_};
-ghost use Prim.Native.Nat.{_+_, _*_, _<_, _≤_};
+ghost use Prim.Native.Nat.{_+_, _*_, _/_, _<_};
 ghost use lib.Dec.{ltb};
-ghost use lib.IntN.{pos, natAbs};
+ghost use lib.IntN.{pos};
 ghost use lib.ListN.{length};
 ghost use lib.Signed.{ltZ};
 ghost use Rattle.sheet.specs.Plane.{spot, Small};
 ghost use Rattle.sheet.specs.Plane as plane;
 ghost use Rattle.sheet.specs.Office.{office};
 ghost use Rattle.sheet.specs.Code.{Plotted, Mated};
-ghost use Rattle.sheet.specs.Quick.{Clear, AllClear, Smooth, AllSmooth, Neat};
+ghost use Rattle.sheet.specs.Quick.{Cornering, Clear, Clears, AllClear, Smooth, AllSmooth, Neat};
 
-// The squared length of the way from one point to another.
-fn far(ax: u16, ay: u16, bx: u16, by: u16) -> i64
-    requires { ⌜ Small (spot ax ay) × Small (spot bx by) ⌝ }
-    ensures { λ r. ⌜ (r ≡ plane.squared (spot ax ay) (spot bx by)) × (natAbs r ≤ 536805378) ⌝ }
-{
-    (bx as i64 - ax as i64) * (bx as i64 - ax as i64)
-        + (by as i64 - ay as i64) * (by as i64 - ay as i64)
-}
-
-// Twice the signed area of a triangle.
-fn bend(ax: u16, ay: u16, bx: u16, by: u16, cx: u16, cy: u16) -> i64
-    requires { ⌜ Small (spot ax ay) × Small (spot bx by) × Small (spot cx cy) ⌝ }
-    ensures { λ r. ⌜ (r ≡ plane.turn (spot ax ay) (spot bx by) (spot cx cy)) × (natAbs r ≤ 536805378) ⌝ }
-{
-    (bx as i64 - ax as i64) * (cy as i64 - ay as i64)
-        - (by as i64 - ay as i64) * (cx as i64 - ax as i64)
-}
-
-// Whether d lies strictly inside the circle through a b c, from the differences to d.
-fn holds(ax: u16, ay: u16, bx: u16, by: u16, cx: u16, cy: u16, dx: u16, dy: u16) -> bool
-    requires { ⌜ Small (spot ax ay) × Small (spot bx by) × Small (spot cx cy) × Small (spot dx dy) ⌝ }
-    ensures { λ b. ⌜ b ≡ ltZ (pos 0) (plane.circle (spot ax ay) (spot bx by) (spot cx cy) (spot dx dy)) ⌝ }
-{
-    let value = weighted(
-        far(dx, dy, ax, ay),
-        bend(dx, dy, bx, by, cx, cy),
-        far(dx, dy, bx, by),
-        bend(dx, dy, cx, cy, ax, ay),
-        far(dx, dy, cx, cy),
-        bend(dx, dy, ax, ay, bx, by),
-    );
-    0 < value
-}
-
-// Whether the circle of side s's triangle holds the third corner beyond s, asked at the lower side of a pair.
-fn is_held(xs: &[u16], ys: &[u16], corners: &[u16], mate: &[u16; 6129], s: usize) -> bool
+// Whether the circle of triangle a b c, of which side s runs from a to b, holds the third corner beyond s, asked at the lower side of a pair.
+fn is_held(
+    xs: &[u16],
+    ys: &[u16],
+    corners: &[u16],
+    mate: &[u16; 6129],
+    s: usize,
+    area: i32,
+    a: Spot,
+    b: Spot,
+    c: Spot,
+) -> bool
     requires { ⌜ Plotted (office (now xs) (now ys) (now corners)) × Mated (now corners) (now mate) × (s < length (now corners)) ⌝ }
+    requires { ⌜ Cornering (office (now xs) (now ys) (now corners)) s area (a .x) (a .y) (b .x) (b .y) (c .x) (c .y) ⌝ }
     ensures { λ b. ⌜ (b ≡ false → Clear (office (now (xs .entry)) (now (ys .entry)) (now (corners .entry))) s) ⌝ }
 {
     let r = wide(mate[s]);
-    if r <= s {
+    if (r <= s) | (corners.len() <= r) {
         return false;
     }
-    if corners.len() <= r {
-        return false;
-    }
+    let l = last_of(r);
+    let d = corner_at(xs, ys, corners, l);
+    holds(area, a.x, a.y, b.x, b.y, c.x, c.y, d.x, d.y)
+}
+
+// Whether the circle of triangle t holds the corner just beyond one of its sides.
+fn is_bad(xs: &[u16], ys: &[u16], corners: &[u16], mate: &[u16; 6129], t: usize) -> bool
+    requires { ⌜ Plotted (office (now xs) (now ys) (now corners)) × Mated (now corners) (now mate) × (t < length (now corners) / 3) ⌝ }
+    ensures { λ b. ⌜ (b ≡ false → Clears (office (now (xs .entry)) (now (ys .entry)) (now (corners .entry))) t) ⌝ }
+{
+    let s = t * 3;
     let a = corner_at(xs, ys, corners, s);
-    let b = corner_at(xs, ys, corners, s / 3 * 3 + (s + 1) % 3);
-    let c = corner_at(xs, ys, corners, s / 3 * 3 + (s + 2) % 3);
-    let d = corner_at(xs, ys, corners, r / 3 * 3 + (r + 2) % 3);
-    holds(a.x, a.y, b.x, b.y, c.x, c.y, d.x, d.y)
+    let b = corner_at(xs, ys, corners, s + 1);
+    let c = corner_at(xs, ys, corners, s + 2);
+    let area = turn(a.x, a.y, b.x, b.y, c.x, c.y);
+    is_held(xs, ys, corners, mate, s, area, a, b, c)
+        | is_held(xs, ys, corners, mate, s + 1, area, b, c, a)
+        | is_held(xs, ys, corners, mate, s + 2, area, c, a, b)
 }
 
 // Whether no circle holds the corner just beyond one of its sides.
@@ -76,12 +65,13 @@ fn is_local(xs: &[u16], ys: &[u16], corners: &[u16], mate: &[u16; 6129]) -> bool
     requires { ⌜ Plotted (office (now xs) (now ys) (now corners)) × Mated (now corners) (now mate) ⌝ }
     ensures { λ b. ⌜ (b ≡ true → AllClear (office (now (xs .entry)) (now (ys .entry)) (now (corners .entry)))) ⌝ }
 {
-    let mut s = 0;
-    while s < corners.len() {
-        if is_held(xs, ys, corners, mate, s) {
+    let n = corners.len() / 3;
+    let mut t = 0;
+    while t < n {
+        if is_bad(xs, ys, corners, mate, t) {
             return false;
         }
-        s += 1;
+        t += 1;
     }
     true
 }
@@ -129,14 +119,14 @@ fn is_wrong(ax: u16, ay: u16, bx: u16, by: u16, cx: u16, cy: u16, lowest: bool) 
     (turn(ax, ay, bx, by, cx, cy) < 0) | ((b < a) & (b < c) & !lowest)
 }
 
-// Whether side s is on the rim and r is not the rim side that goes on from it, or the way along both is wrong.
+// Whether side s is on the rim and none goes on from it there, or the way along both is wrong.
 fn is_odd(
     xs: &[u16],
     ys: &[u16],
     corners: &[u16],
     mate: &[u16; 6129],
+    onward: &[u16; 1024],
     s: usize,
-    r: usize,
     lowest: usize,
 ) -> bool
     requires { ⌜ Plotted (office (now xs) (now ys) (now corners)) × Mated (now corners) (now mate) × (s < length (now corners)) ⌝ }
@@ -146,11 +136,12 @@ fn is_odd(
     if !bare {
         return false;
     }
+    let e = next_of(s);
+    let p = wide(corners[e]);
+    let r = wide(onward[p]);
     if corners.len() <= r {
         return true;
     }
-    let e = s / 3 * 3 + (s + 1) % 3;
-    let p = wide(corners[e]);
     let q = wide(corners[r]);
     if p != q {
         return true;
@@ -161,23 +152,26 @@ fn is_odd(
     }
     let a = corner_at(xs, ys, corners, s);
     let b = corner_at(xs, ys, corners, e);
-    let c = corner_at(xs, ys, corners, r / 3 * 3 + (r + 1) % 3);
+    let f = next_of(r);
+    let c = corner_at(xs, ys, corners, f);
     is_wrong(a.x, a.y, b.x, b.y, c.x, c.y, p == lowest)
 }
 
-// Whether the rim never turns right, and goes round once.
-fn is_convex(xs: &[u16], ys: &[u16], corners: &[u16], mate: &[u16; 6129]) -> bool
+// Whether the rim never turns right, and goes round once. `onward` names for each point a side that may go on from there.
+fn is_convex(
+    xs: &[u16],
+    ys: &[u16],
+    corners: &[u16],
+    mate: &[u16; 6129],
+    onward: &[u16; 1024],
+) -> bool
     requires { ⌜ Plotted (office (now xs) (now ys) (now corners)) × Mated (now corners) (now mate) ⌝ }
     ensures { λ b. ⌜ (b ≡ true → AllSmooth (office (now (xs .entry)) (now (ys .entry)) (now (corners .entry)))) ⌝ }
 {
     let lowest = lowest_point(xs, ys);
-    let onward = leaving(corners, mate);
     let mut s = 0;
     while s < corners.len() {
-        let e = s / 3 * 3 + (s + 1) % 3;
-        let p = wide(corners[e]);
-        let r = wide(onward[p]);
-        if is_odd(xs, ys, corners, mate, s, r, lowest) {
+        if is_odd(xs, ys, corners, mate, onward, s, lowest) {
             return false;
         }
         s += 1;
@@ -186,11 +180,17 @@ fn is_convex(xs: &[u16], ys: &[u16], corners: &[u16], mate: &[u16; 6129]) -> boo
 }
 
 // Whether both hold.
-pub fn is_neat(xs: &[u16], ys: &[u16], corners: &[u16], mate: &[u16; 6129]) -> bool
+pub fn is_neat(
+    xs: &[u16],
+    ys: &[u16],
+    corners: &[u16],
+    mate: &[u16; 6129],
+    onward: &[u16; 1024],
+) -> bool
     requires { ⌜ Plotted (office (now xs) (now ys) (now corners)) × Mated (now corners) (now mate) ⌝ }
     ensures { λ b. ⌜ (b ≡ true → Neat (office (now (xs .entry)) (now (ys .entry)) (now (corners .entry)))) ⌝ }
 {
-    let convex = is_convex(xs, ys, corners, mate);
+    let convex = is_convex(xs, ys, corners, mate, onward);
     if !convex {
         return false;
     }

@@ -1,6 +1,7 @@
 // Refusals 12 and 13: the rim is one ring, and no point lies strictly right of it. No public call.
 use super::plane::turn;
 use super::plane::wide;
+use super::sides::next_of;
 use super::spots::corner_at;
 use super::spots::point_at;
 ghost use mathlib.Core.Path.{_≡_};
@@ -104,16 +105,16 @@ fn onward(corners: &[u16], list: &[u16; 1024], p: usize) -> usize
     ensures { λ r. ⌜ r ≡ after (bare (now (corners .entry))) p ⌝ }
 {
     let s = wide(list[p]);
-    corner_or_zero(corners, s / 3 * 3 + (s + 1) % 3)
+    let e = next_of(s);
+    corner_or_zero(corners, e)
 }
 
 // Whether going along the rim for `rim` steps visits as many points and comes back.
-fn goes_round(corners: &[u16], mate: &[u16; 6129], rim: usize) -> bool
-    requires { ⌜ Mated (now corners) (now mate) × (length (now corners) ≤ 6129) × (length (now corners) % 3 ≡ 0) × Numbered (now corners) 1024 ⌝ }
+fn goes_round(corners: &[u16], mate: &[u16; 6129], list: &[u16; 1024], rim: usize) -> bool
+    requires { ⌜ Mated (now corners) (now mate) × (length (now corners) ≤ 6129) × Leaving (now corners) (now list) × Numbered (now corners) 1024 ⌝ }
     ensures { λ b. ⌜ b ≡ (once (walk (after (bare (now (corners .entry)))) (start (bare (now (corners .entry)))) rim) && eqb (stepped (after (bare (now (corners .entry)))) (start (bare (now (corners .entry)))) rim) (start (bare (now (corners .entry))))) ⌝ }
 {
     let begun = rim_start(corners, mate);
-    let list = leaving(corners, mate);
     let mut seen = [0u8; 1024];
     let mut p = begun;
     let mut i = 0;
@@ -122,19 +123,19 @@ fn goes_round(corners: &[u16], mate: &[u16; 6129], rim: usize) -> bool
             return false;
         }
         seen[p] = 1;
-        p = onward(corners, &list, p);
+        p = onward(corners, list, p);
         i += 1;
     }
     p == begun
 }
 
 // Whether the rim sides, of which there are `rim`, are one ring with each point once.
-pub fn is_one_ring(corners: &[u16], mate: &[u16; 6129], rim: usize) -> bool
-    requires { ⌜ Mated (now corners) (now mate) × (length (now corners) ≤ 6129) × (length (now corners) % 3 ≡ 0) × Numbered (now corners) 1024 ⌝ }
+pub fn is_one_ring(corners: &[u16], mate: &[u16; 6129], list: &[u16; 1024], rim: usize) -> bool
+    requires { ⌜ Mated (now corners) (now mate) × (length (now corners) ≤ 6129) × Leaving (now corners) (now list) × Numbered (now corners) 1024 ⌝ }
     requires { ⌜ rim ≡ rims (bare (now corners)) ⌝ }
     ensures { λ b. ⌜ b ≡ one-ring (bare (now (corners .entry))) ⌝ }
 {
-    (0 < rim) & goes_round(corners, mate, rim)
+    (0 < rim) & goes_round(corners, mate, list, rim)
 }
 
 // Whether side s is on the rim, and point p lies strictly right of it.

@@ -7,32 +7,39 @@ ghost use Prim.Native.Nat.{ℕ, _+_, _%_, _<_, _≤_};
 ghost use lib.Dec.{ltb, eqb};
 ghost use lib.ListN.{length, getD, drop};
 ghost use Rattle.laws.specs.First.{final};
-ghost use Rattle.sheet.specs.Office.{bare};
+ghost use Rattle.sheet.specs.Office.{bare, next, last};
 ghost use Rattle.sheet.specs.Acceptable.{Single};
 ghost use Rattle.sheet.specs.Code.{Numbered, starts, Chained, Mated, back-along, Noted, Placed, Righted};
 
-// For each side the latest earlier one from the same point, and for each point the latest side from it; 65,535 for none.
-pub struct Chains {
-    pub earlier: [u16; 6129],
-    pub latest: [u16; 1024],
+// The place of the corner after s in its triangle: by comparing, with no quotient.
+pub fn next_of(s: usize) -> usize
+    requires { ⌜ s < 65535 ⌝ }
+    ensures { λ r. ⌜ r ≡ next s ⌝ }
+{
+    if s % 3 == 2 { s - 2 } else { s + 1 }
 }
 
-pub fn chain_sides(corners: &[u16]) -> Chains
-    requires { ⌜ Numbered (now corners) 1024 × (length (now corners) ≤ 6129) ⌝ }
-    ensures { λ r. ⌜ Chained (now (corners .entry)) (r .earlier) (r .latest) ⌝ }
+// The place of the corner before s in its triangle.
+pub fn last_of(s: usize) -> usize
+    requires { ⌜ s < 65535 ⌝ }
+    ensures { λ r. ⌜ r ≡ last s ⌝ }
 {
-    let mut earlier = [65535u16; 6129];
-    let mut latest = [65535u16; 1024];
+    if s % 3 == 0 { s + 2 } else { s - 1 }
+}
+
+// For each side the latest earlier one from the same point, and for each point the latest side from it; 65,535 for none.
+pub fn chain_sides(corners: &[u16], earlier: &mut [u16; 6129], latest: &mut [u16; 1024])
+    requires { ⌜ Numbered (now corners) 1024 × (length (now corners) ≤ 6129) ⌝ }
+    ensures { λ _. ⌜ Chained (now (corners .entry)) (now (earlier .exit)) (now (latest .exit)) ⌝ }
+{
+    *earlier = [65535u16; 6129];
+    *latest = [65535u16; 1024];
     let mut s = 0;
     while s < corners.len() {
         let p = wide(corners[s]);
         earlier[s] = latest[p];
         latest[p] = s as u16;
         s += 1;
-    }
-    Chains {
-        earlier: earlier,
-        latest: latest,
     }
 }
 
@@ -79,7 +86,8 @@ fn note_ends(
 {
     let mut r = begun;
     while r < 65535 {
-        let q = wide(corners[r / 3 * 3 + (r + 1) % 3]);
+        let e = next_of(r);
+        let q = wide(corners[e]);
         let old = wide(noted[q]);
         if is_from(corners, p, old) {
             return false;
@@ -117,7 +125,7 @@ fn note_mates(
 {
     let mut s = begun;
     while s < 65535 {
-        let l = s / 3 * 3 + (s + 2) % 3;
+        let l = last_of(s);
         let q = wide(corners[l]);
         mate[l] = mate_noted(corners, p, noted[q]);
         s = wide(earlier[s]);
@@ -154,9 +162,9 @@ pub fn mates(corners: &[u16]) -> [u16; 6129]
     requires { ⌜ (length (now corners) % 3 ≡ 0) × (length (now corners) ≤ 6129) × Numbered (now corners) 1024 × Single (bare (now corners)) ⌝ }
     ensures { λ r. ⌜ Mated (now (corners .entry)) r ⌝ }
 {
-    let chain = chain_sides(corners);
-    let earlier = chain.earlier;
-    let latest = chain.latest;
+    let mut earlier = [65535u16; 6129];
+    let mut latest = [65535u16; 1024];
+    chain_sides(corners, &mut earlier, &mut latest);
     let mut mate = [0u16; 6129];
     pair_sides(corners, &earlier, &latest, &mut mate);
     mate

@@ -18,7 +18,7 @@ abbrev of : tie.Start → Office
 of s = office (s .args .xs .now) (s .args .ys .now) (s .args .corners .now)
 
 pair-sides-requires : tie.Need-pair-sides-requires
-pair-sides-requires c κs = let s = c .before .before .before .before .before .before .before .before .before in (s .pre .0 .whole, s .pre .0 .short, low-numbers (of s) (s .pre .0), c .before .before .before .before .before .chain-sides .ensures, s .pre .2)
+pair-sides-requires c κs = let s = c .before .before .before .before .before .before .before .before .before in (s .pre .0 .whole, s .pre .0 .short, low-numbers (of s) (s .pre .0), c .before .before .before .chain-sides .ensures, s .pre .2)
 
 -- where the pairing stops, there is a triangle to name
 found : (c : tie.After-first-double) → c .first-double .result < triangles (of (c .before .before .before .before .before .before .before .before .before .before .before .before .before))
@@ -41,9 +41,9 @@ pub check-sides-spec : {M : Type 1} → statement M
 check-sides-spec =
     tie.close
     (tie.spec
-    (λ c κs. let s = c .before .before .before in (low-numbers (of s) (s .pre .0), s .pre .0 .short))
+    (λ c κs. let s = c .before .before .before .before .before in (low-numbers (of s) (s .pre .0), s .pre .0 .short))
     pair-sides-requires
-    (λ c κs. let s = c .before .before .before .before .before .before .before .before .before .before .before .before in ((s .pre .0 .whole, s .pre .0 .short, cornered-of (of s) (s .pre .0 .whole) (s .pre .1)), c .before .before .before .before .before .before .before .before .chain-sides .ensures .earlier-is))
+    (λ c κs. let s = c .before .before .before .before .before .before .before .before .before .before .before .before in ((s .pre .0 .whole, s .pre .0 .short, cornered-of (of s) (s .pre .0 .whole) (s .pre .1)), c .before .before .before .before .before .before .chain-sides .ensures .earlier-is))
     (λ c κs. search needs)
     (λ c. (at-hit _ _ _ _ _ _ (c .before .first-double .ensures) (found (c .before)) (c .refused .ensures), no-table _ _ _ (c .refused .ensures)))
     (λ c κs. search needs)

@@ -1,40 +1,56 @@
--- `sheet::plane::squared` meets its contract. Assumes nothing.
-use mathlib.Core.Path.{_≡_, sym, ap₂, _∙_}
-use Prim.Native.Nat.{ℕ, _+_, _*_}
+-- `sheet::plane::squared` meets its contract: the numbers of its code, in the code's order. Assumes nothing.
+use mathlib.Core.Path.{_≡_, sym, ap, subst, _∙_}
 use native.Mathlib.Omega.{arith}
 use borrow.Author.Needs.{needs}
+use lib.Dec.{T}
 use lib.IntN.{natAbs}
+use lib.Signed.{nonNeg}
+use mir.Syntax.{w32}
+use mir.Val.{toZ}
+use Rattle.laws.proofs.Exact.{Num, apart, plus, times}
 use Rattle.sheet.specs.Plane.{Point, squared, spot}
-use Rattle.sheet.proofs.Length.{squared-is, squared-bound}
+use Rattle.sheet.proofs.Length.{squared-bound, squared-whole}
 use Rattle.sheet.proofs.plane.squared.Statement.{statement}
 use Rattle.sheet.proofs.plane.squared.Tie as tie
 
-module _ (c : tie.After-apart2) where
+module _ (c : tie.Start) where
   abbrev a : Point
-  a = spot (c .before .before .args .ax) (c .before .before .args .ay)
+  a = spot (c .args .ax) (c .args .ay)
 
   abbrev b : Point
-  b = spot (c .before .before .args .bx) (c .before .before .args .by)
+  b = spot (c .args .bx) (c .args .by)
 
-  abbrev x : ℕ
-  x = c .before .apart .result
+  abbrev ux : Num w32
+  ux = apart 16383 _ _ (c .pre .1 .0) (c .pre .0 .0) tt
 
-  abbrev y : ℕ
-  y = c .apart2 .result
+  abbrev uy : Num w32
+  uy = apart 16383 _ _ (c .pre .1 .1) (c .pre .0 .1) tt
 
-  total : x * x + y * y ≡ natAbs (squared a b)
-  total = ap₂ (λ u v. u * u + v * v) (c .before .apart .ensures) (c .apart2 .ensures) ∙ sym (squared-is a b)
+  abbrev all : Num w32
+  all = plus (times ux ux tt) (times uy uy tt) tt
+
+  reads : toZ w32 (all .bits) ≡ squared a b
+  unfolding squared
+  reads = all .reads
+
+cast-result : tie.Need-cast-result
+cast-result c = (subst (λ z. T (nonNeg z)) (squared-whole (a c) (b c) ∙ sym (reads c)) tt, omega (arith, ap natAbs (reads c), squared-bound (a c) (b c) (c .pre .0) (c .pre .1)))
 
 returns : tie.Need-returns
-returns c = total c
+returns c = ap natAbs (reads c)
 
 pub squared-spec : {M : Type 1} → statement M
 squared-spec =
     tie.close
     (tie.spec
-    (λ c κs. search needs)
-    (λ c κs. search needs)
-    (λ c. omega (arith, total c, squared-bound (a c) (b c) (c .before .before .pre .0) (c .before .before .pre .1)))
-    (λ c. omega (arith, total c, squared-bound (a c) (b c) (c .before .before .pre .0) (c .before .before .pre .1)))
-    (λ c. omega (arith, total c, squared-bound (a c) (b c) (c .before .before .pre .0) (c .before .before .pre .1)))
+    (λ c. search (needs, all c .seen))
+    (λ c. search (needs, all c .seen))
+    (λ c. search (needs, all c .seen))
+    (λ c. search (needs, all c .seen))
+    (λ c. search (needs, all c .seen))
+    (λ c. search (needs, all c .seen))
+    (λ c. search (needs, all c .seen))
+    (λ c. search (needs, all c .seen))
+    (λ c. search (needs, all c .seen))
+    cast-result
     returns)

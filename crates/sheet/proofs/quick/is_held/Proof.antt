@@ -1,23 +1,46 @@
 -- `sheet::quick::is_held` meets its contract. Assumes nothing.
-use mathlib.Core.Path.{_≡_, _∙_}
+use mathlib.Core.Path.{_≡_, subst, _∙_}
+use mathlib.Core.Bool.{true, _||_}
+use mathlib.Core.Logic.{inl, inr}
+use Prim.Native.Nat.{ℕ, _<_}
 use native.Mathlib.Omega.{arith}
 use borrow.Author.Needs.{needs}
+use lib.Dec.{leb}
 use lib.ListN.{length}
 use Rattle.laws.proofs.Fill.{table-at}
-use Rattle.sheet.specs.Office.{office, mate-of}
+use Rattle.laws.proofs.Test.{plain, or-iff, neither-iff, leb-iff}
+use Rattle.sheet.specs.Office.{office, tail, mate-of}
+use Rattle.sheet.specs.Code.{At}
 use Rattle.sheet.proofs.Side.{last-below}
 use Rattle.sheet.proofs.Neat.{clear-at}
 use Rattle.sheet.proofs.quick.is_held.Statement.{statement}
 use Rattle.sheet.proofs.quick.is_held.Tie as tie
 
 mate-is : (c : tie.After-wide) → (let s = c .before .before .before .before .before in c .wide .result ≡ mate-of (s .args .corners .now) (s .args .s))
-mate-is c = let s = c .before .before .before .before .before in c .wide .ensures ∙ table-at (mate-of (s .args .corners .now)) (length (s .args .corners .now)) (s .args .mate .now) (s .args .s) (s .pre .1) (s .pre .2)
+mate-is c = let s = c .before .before .before .before .before in c .wide .ensures ∙ table-at (mate-of (s .args .corners .now)) (length (s .args .corners .now)) (s .args .mate .now) (s .args .s) (s .pre .0 .1) (s .pre .0 .2)
 
-returns-3 : tie.Need-returns-3
-returns-3 c =
-    let s = c .before .before .before .before .before .before .before .before .before .before .before .before in
-    clear-at (office (s .args .xs .now) (s .args .ys .now) (s .args .corners .now)) (s .args .s) (c .before .before .before .before .before .before .before .wide .result) (mate-is (c .before .before .before .before .before .before .before))
-    (c .before .before .before .before .corner-at .ensures) (c .before .before .before .corner-at2 .ensures) (c .before .before .corner-at3 .ensures) (c .before .corner-at4 .ensures) (c .holds .ensures)
+-- a side with no mate above it is not asked
+not-asked : {m r s n : ℕ} → m ≡ r → (leb m s || leb n m) ≡ true → s < r → r < n → ⊥
+not-asked {m} {r} {s} {n} e t l b = elim (or-iff {a = leb m s} .0 t) [ inl x ↦ (let y = leb-iff {a = m} {b = s} .0 x in omega arith) | inr x ↦ (let y = leb-iff {a = n} {b = m} .0 x in omega arith) ]
+
+returns : tie.Need-returns
+returns c e l b h = not-asked (mate-is (c .before)) (c .if1 .taken) l b
+
+below : (c : tie.Else1) → c .before .wide .result < length (c .before .before .before .before .before .before .args .corners .now)
+below c = let t = neither-iff {a = leb (c .before .wide .result) (c .before .before .before .before .before .before .args .s)} {b = leb (length (c .before .before .before .before .before .before .args .corners .now)) (c .before .wide .result)} .0 (c .if1 .left) in let u = simp plain at (t .1) in omega arith
+
+last-of-requires : tie.Need-last-of-requires
+last-of-requires c κs = omega (arith, below c, c .before .before .before .before .before .before .pre .0 .0 .short)
+
+corner-at-requires : tie.Need-corner-at-requires
+corner-at-requires c κs = let s = c .before .before .before .before .before .before .before in (s .pre .0 .0, omega (arith, c .last-of .ensures, last-below _ (c .before .before .wide .result) (s .pre .0 .0 .whole) (below (c .before))))
+
+returns-2 : tie.Need-returns-2
+returns-2 c =
+    let s = c .before .before .before .before .before .before .before .before .before in
+    let o = office (s .args .xs .now) (s .args .ys .now) (s .args .corners .now) in
+    clear-at o (s .args .s) (c .before .before .before .before .wide .result) (mate-is (c .before .before .before .before)) (s .pre .1 .from) (s .pre .1 .to) (s .pre .1 .third)
+    (subst (λ k. At o (tail o k) (c .before .corner-at .result .x) (c .before .corner-at .result .y)) (c .before .before .last-of .ensures) (c .before .corner-at .ensures)) (c .holds .ensures)
 
 pub is-held-spec : {M : Type 1} → statement M
 is-held-spec =
@@ -26,20 +49,8 @@ is-held-spec =
     (λ c. search needs)
     (λ c. search needs)
     (λ c κs. search needs)
-    (λ c e l b h. omega (arith, mate-is (c .before), c .if1 .taken))
-    (λ c e l b h. omega (arith, mate-is (c .before .before), c .if2 .taken))
+    returns
+    last-of-requires
+    corner-at-requires
     (λ c κs. search needs)
-    (λ c. search needs)
-    (λ c. search needs)
-    (λ c. search needs)
-    (λ c κs. search needs)
-    (λ c. search needs)
-    (λ c. search needs)
-    (λ c. search needs)
-    (λ c κs. search needs)
-    (λ c. search needs)
-    (λ c. omega (arith, c .before .before .before .if2 .left, c .before .before .before .before .before .before .before .before .before .before .pre .0 .short))
-    (λ c. omega (arith, c .before .before .before .if2 .left, c .before .before .before .before .before .before .before .before .before .before .pre .0 .short))
-    (λ c κs. (c .before .before .before .before .before .before .before .before .before .before .pre .0, last-below _ _ (c .before .before .before .before .before .before .before .before .before .before .pre .0 .whole) (c .before .before .before .if2 .left)))
-    (λ c κs. search needs)
-    returns-3)
+    returns-2)

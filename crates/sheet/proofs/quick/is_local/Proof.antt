@@ -1,20 +1,21 @@
--- `sheet::quick::is_local` meets its contract: one more side at a time. Assumes nothing.
+-- `sheet::quick::is_local` meets its contract: one more triangle at a time. Assumes nothing.
 use mathlib.Core.Path.{refl}
-use Prim.Native.Nat.{_-_}
+use Prim.Native.Nat.{_-_, _/_}
 use borrow.Author.Needs.{needs}
 use lib.ListN.{length}
 use Rattle.laws.proofs.Each.{Passed, passed-none, passed-one, passed-all}
 use Rattle.sheet.specs.Office.{office}
-use Rattle.sheet.specs.Quick.{Clear}
+use Rattle.sheet.specs.Quick.{Clears}
 use Rattle.sheet.proofs.Cancel.{differ}
+use Rattle.sheet.proofs.Neat.{all-clear}
 use Rattle.sheet.proofs.quick.is_local.Statement.{statement}
 use Rattle.sheet.proofs.quick.is_local.Tie as tie
 
 abbrev Inv-loop : tie.InvT-loop
-Inv-loop xs ys corners mate s₀ s = Passed (Clear (office xs ys corners)) (length corners) s
+Inv-loop xs ys corners mate n t₀ t = Passed (Clears (office xs ys corners)) (length corners / 3) t
 
 abbrev μ-loop : tie.MeasureT-loop
-μ-loop xs ys corners mate s₀ s = length corners - s
+μ-loop xs ys corners mate n t₀ t = length corners / 3 - t
 
 pub is-local-spec : {M : Type 1} → statement M
 is-local-spec =
@@ -25,5 +26,5 @@ is-local-spec =
     (λ c e. differ e refl)
     (λ c. search needs)
     (λ c. search needs)
-    (λ c. passed-one (c .before .before .before .loop .inv) (c .before .before .loop-test .taken) (c .before .is-held .ensures (c .if1 .left)))
-    (λ c e. passed-all (c .before .loop .inv) (c .loop-test .left)))
+    (λ c. passed-one (c .before .before .before .loop .inv) (c .before .before .loop-test .taken) (c .before .is-bad .ensures (c .if1 .left)))
+    (λ c e. let s = c .before .before .before .before .before in all-clear (office (s .args .xs .now) (s .args .ys .now) (s .args .corners .now)) (s .pre .0 .whole) (passed-all (c .before .loop .inv) (c .loop-test .left))))

@@ -22,10 +22,10 @@ pub record Inv (corners : List ℕ) (rim : ℕ) (seen : List ℕ) (p i : ℕ) : 
   pub long : length seen ≡ 1024
 
 abbrev Inv-loop : tie.InvT-loop
-Inv-loop corners mate rim begun list seen₀ p₀ i₀ seen p i = Inv corners rim seen p i
+Inv-loop corners mate list rim begun seen₀ p₀ i₀ seen p i = Inv corners rim seen p i
 
 abbrev μ-loop : tie.MeasureT-loop
-μ-loop corners mate rim begun list seen₀ p₀ i₀ seen p i = rim - i
+μ-loop corners mate list rim begun seen₀ p₀ i₀ seen p i = rim - i
 
 -- every corner, and what stands for none, is within the array
 low : (corners : List ℕ) → Numbered corners 1024 → (s : ℕ) → getD corners s 0 < 1024
@@ -39,19 +39,19 @@ clean q = elim (decLt q 1024) [
 
 begins : tie.Need-loop-holds Inv-loop μ-loop
 begins c =
-    let b = c .before .before .before in
+    let b = c .before .before in
     record {
-      walked = visits-none clean (c .before .rim-start .ensures);
-      here = subst (λ q. q < 1024) (sym (c .before .rim-start .ensures)) (low (b .args .corners .now) (b .pre .3) _);
+      walked = visits-none clean (c .rim-start .ensures);
+      here = subst (λ q. q < 1024) (sym (c .rim-start .ensures)) (low (b .args .corners .now) (b .pre .3) _);
       long = length-replicate {A = ℕ} 1024 0;
     }
 
 goes-on : tie.Need-loop-again Inv-loop μ-loop
 goes-on c =
-    let at = c .before .before .before .before in
-    let b = at .before .before .before .before in
+    let at = c .before .before .before in
+    let b = at .before .before .before in
     record {
-      walked = visits-one (at .loop .inv .walked) (c .before .before .before .loop-test .taken) (omega (arith, at .loop .inv .here, at .loop .inv .long)) (c .before .before .if1 .left) (c .onward .ensures);
+      walked = visits-one (at .loop .inv .walked) (c .before .before .loop-test .taken) (omega (arith, at .loop .inv .here, at .loop .inv .long)) (c .before .if1 .left) (c .onward .ensures);
       here = subst (λ q. q < 1024) (sym (c .onward .ensures)) (low (b .args .corners .now) (b .pre .3) _);
       long = simp length-set (at .loop .inv .long);
     }
@@ -74,15 +74,14 @@ goes-round-spec =
     tie.close
     (tie.spec Inv-loop μ-loop
     (λ c κs. search needs)
-    (λ c κs. search needs)
     begins
     (λ c. omega (arith, c .before .loop .inv .here))
-    (λ c. no-round (c .before .before .before .before .before .before .args .corners .now) (c .before .before .before .before .before .before .args .rim) (visits-twice (c .before .before .loop .inv .walked) (c .before .loop-test .taken) (c .if1 .taken)))
+    (λ c. no-round (c .before .before .before .before .before .args .corners .now) (c .before .before .before .before .before .args .rim) (visits-twice (c .before .before .loop .inv .walked) (c .before .loop-test .taken) (c .if1 .taken)))
     (λ c. omega (arith, c .before .before .loop .inv .here))
-    (λ c κs. let at = c .before .before .before in (at .before .before .before .before .pre .1, at .loop .inv .here, at .before .leaving .ensures))
+    (λ c κs. let at = c .before .before in let b = at .before .before .before in (b .pre .1, at .loop .inv .here, b .pre .2))
     (λ c. omega arith)
     (λ c. omega arith)
     goes-on
     (λ c.
     let (once-is, here) = visits-all (c .before .loop .inv .walked) (c .loop-test .left) in
-    round-is (c .before .before .before .before .before .args .corners .now) (c .before .before .before .before .before .args .rim) once-is (ap₂ eqb here (c .before .before .before .rim-start .ensures))))
+    round-is (c .before .before .before .before .args .corners .now) (c .before .before .before .before .args .rim) once-is (ap₂ eqb here (c .before .before .rim-start .ensures))))

@@ -1,36 +1,28 @@
--- `sheet::quick::bend` meets its contract: the numbers of its code, in the code's order. Assumes nothing.
-use mathlib.Core.Path.{sym, subst}
-use Prim.Native.Nat.{_≤_}
-use lib.IntN.{natAbs}
+-- `sheet::plane::dot` meets its contract: the numbers of its code, in the code's order. Assumes nothing.
 use borrow.Author.Needs.{needs}
-use mir.Syntax.{w64}
-use Rattle.laws.proofs.Exact.{Num, apart, minus, times}
-use Rattle.sheet.specs.Plane.{turn}
-use Rattle.sheet.proofs.quick.bend.Statement.{statement}
-use Rattle.sheet.proofs.quick.bend.Tie as tie
+use mir.Syntax.{w32}
+use Rattle.laws.proofs.Exact.{Num, apart, plus, times}
+use Rattle.sheet.proofs.plane.dot.Statement.{statement}
+use Rattle.sheet.proofs.plane.dot.Tie as tie
 
 module _ (c : tie.Start) where
-  abbrev ux : Num w64
+  abbrev ux : Num w32
   ux = apart 16383 _ _ (c .pre .1 .0) (c .pre .0 .0) tt
 
-  abbrev uy : Num w64
+  abbrev uy : Num w32
   uy = apart 16383 _ _ (c .pre .1 .1) (c .pre .0 .1) tt
 
-  abbrev vx : Num w64
+  abbrev vx : Num w32
   vx = apart 16383 _ _ (c .pre .2 .0) (c .pre .0 .0) tt
 
-  abbrev vy : Num w64
+  abbrev vy : Num w32
   vy = apart 16383 _ _ (c .pre .2 .1) (c .pre .0 .1) tt
 
-  abbrev all : Num w64
-  all = minus (times ux vy tt) (times uy vx tt) tt
+  abbrev all : Num w32
+  all = plus (times ux vx tt) (times uy vy tt) tt
 
-returns : tie.Need-returns
-unfolding turn
-returns c = (all c .reads, subst (λ z. natAbs z ≤ 536805378) (sym (all c .reads)) (all c .small))
-
-pub bend-spec : {M : Type 1} → statement M
-bend-spec =
+pub dot-spec : {M : Type 1} → statement M
+dot-spec =
     tie.close
     (tie.spec
     (λ c. search (needs, all c .seen))
@@ -48,4 +40,4 @@ bend-spec =
     (λ c. search (needs, all c .seen))
     (λ c. search (needs, all c .seen))
     (λ c. search (needs, all c .seen))
-    returns)
+    (λ c. all c .reads))
