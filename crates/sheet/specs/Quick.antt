@@ -1,13 +1,15 @@
 -- What makes an office acceptable by a look at neighbours alone, after the refusals 1 to 10 and 12. Assumes nothing.
 use mathlib.Core.Path.{_≡_}
+use mathlib.Core.Bool.{true}
 use Prim.Native.Nat.{ℕ, _+_, _*_, _%_, _<_, _≤_}
 use lib.IntN.{ℤ, pos}
 use lib.Signed.{_<ℤ_}
 use lib.ListN.{getD}
+use Rattle.laws.specs.First.{first}
 use Rattle.laws.specs.Round.{Round}
 use Rattle.sheet.specs.Plane.{Point, spot, turn, circle}
-use Rattle.sheet.specs.Office.{Office, points, sides, point, tail, head, apex, mate-of}
-use Rattle.sheet.specs.Code.{At}
+use Rattle.sheet.specs.Office.{Office, points, sides, triangles, invaded, point, tail, head, apex, mate-of}
+use Rattle.sheet.specs.Code.{At, leaves}
 use Rattle.sheet.specs.Acceptable.{Left, Single, Used, Reverse, Rim, Along}
 
 -- what these refusals leave, but for the lists' lengths
@@ -64,11 +66,20 @@ pub record Goes (o : Office) (lowest s : ℕ) : Type 0 where
 abbrev pub Smooth : Office → ℕ → ℕ → Type 0
 Smooth o lowest s = Rim o s → Goes o lowest s
 
+-- the same of the first rim side from point p, where there is one
+abbrev pub SmoothFrom : Office → ℕ → ℕ → Type 0
+SmoothFrom o lowest p = first (leaves (o .corners) p) (sides o) < sides o → Smooth o lowest (first (leaves (o .corners) p) (sides o))
+
 abbrev pub AllClear : Office → Type 0
 AllClear o = (s : ℕ) → s < sides o → Clear o s
 
 abbrev pub AllSmooth : Office → Type 0
-AllSmooth o = (lowest : ℕ) × ((s : ℕ) → s < sides o → Smooth o lowest s)
+AllSmooth o = (lowest : ℕ) × ((p : ℕ) → p < points o → SmoothFrom o lowest p)
+
+-- t is a triangle with a point strictly inside its circle, or the number of triangles
+pub record Foremost (o : Office) (t : ℕ) : Type 0 where
+  pub within : t ≤ triangles o
+  pub is-invaded : t < triangles o → invaded o t ≡ true
 
 pub record Neat (o : Office) : Type 0 where
   pub clear : AllClear o

@@ -13,6 +13,7 @@ ghost use Rattle.sheet.specs.Plane.{spot, Small};
 ghost use Rattle.sheet.specs.Plane as plane;
 ghost use Rattle.sheet.specs.Office.{office, invaded};
 ghost use Rattle.sheet.specs.Code.{Plotted, height, Coefficients, linear};
+ghost use Rattle.sheet.specs.Quick.{Foremost};
 
 // The in-circle value at (x, y) is across x + up y + rest - lift (x² + y²): the first four once a triangle, three products a point.
 pub struct Circle {
@@ -168,14 +169,14 @@ fn is_invaded(xs: &[u16], ys: &[u16], corners: &[u16], raised: &[u32; 1024], t: 
     false
 }
 
-pub fn first_invaded(xs: &[u16], ys: &[u16], corners: &[u16]) -> usize
-    requires { ⌜ Plotted (office (now xs) (now ys) (now corners)) ⌝ }
+// The first such triangle. Where a look at neighbours has found one, `bad`, only those before it are asked.
+pub fn first_invaded(xs: &[u16], ys: &[u16], corners: &[u16], bad: usize) -> usize
+    requires { ⌜ Plotted (office (now xs) (now ys) (now corners)) × Foremost (office (now xs) (now ys) (now corners)) bad ⌝ }
     ensures { λ r. ⌜ r ≡ first (invaded (office (now (xs .entry)) (now (ys .entry)) (now (corners .entry)))) (length (now (corners .entry)) / 3) ⌝ }
 {
     let raised = heights(xs, ys, corners);
-    let n = corners.len() / 3;
     let mut t = 0;
-    while t < n {
+    while t < bad {
         if is_invaded(xs, ys, corners, &raised, t) {
             return t;
         }

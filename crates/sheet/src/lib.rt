@@ -12,7 +12,8 @@ pub mod triangles;
 use circles::first_invaded;
 use points::first_again;
 use points::first_large;
-use quick::is_neat;
+use quick::first_bad;
+use quick::is_convex;
 use ring::first_outer;
 use ring::is_one_ring;
 use ring::leaving;
@@ -181,11 +182,12 @@ fn check_rim(xs: &[u16], ys: &[u16], corners: &[u16], mate: &[u16; 6129]) -> Che
     let rim = rim_length(corners, mate);
     let onward = leaving(corners, mate);
     let one = is_one_ring(corners, mate, &onward, rim);
-    let neat = is_neat(xs, ys, corners, mate, &onward);
-    if one & neat {
+    let convex = is_convex(xs, ys, corners, &onward);
+    let bad = first_bad(xs, ys, corners, mate);
+    if one & convex & (corners.len() / 3 <= bad) {
         return Checked::Accepted(rim);
     }
-    let invaded = first_invaded(xs, ys, corners);
+    let invaded = first_invaded(xs, ys, corners, bad);
     if invaded < corners.len() / 3 {
         return refused(11, invaded);
     }

@@ -2,23 +2,23 @@
 use super::circles::holds;
 use super::plane::turn;
 use super::plane::wide;
-use super::ring::is_rim;
 use super::sides::last_of;
 use super::sides::next_of;
 use super::spots::Spot;
 use super::spots::corner_at;
+use super::spots::point_at;
 ghost use mathlib.Core.Path.{_≡_};
 ghost use mathlib.Core.Bool.{true, false, not, _&&_, _||_};
-ghost use Prim.Native.Nat.{_+_, _*_, _/_, _<_};
+ghost use Prim.Native.Nat.{_+_, _*_, _/_, _<_, _≤_};
 ghost use lib.Dec.{ltb};
 ghost use lib.IntN.{pos};
 ghost use lib.ListN.{length};
 ghost use lib.Signed.{ltZ};
 ghost use Rattle.sheet.specs.Plane.{spot, Small};
 ghost use Rattle.sheet.specs.Plane as plane;
-ghost use Rattle.sheet.specs.Office.{office};
-ghost use Rattle.sheet.specs.Code.{Plotted, Mated};
-ghost use Rattle.sheet.specs.Quick.{Cornering, Clear, Clears, AllClear, Smooth, AllSmooth, Neat};
+ghost use Rattle.sheet.specs.Office.{office, invaded};
+ghost use Rattle.sheet.specs.Code.{Plotted, Mated, Leaving};
+ghost use Rattle.sheet.specs.Quick.{Cornering, Clear, Clears, AllClear, Foremost, SmoothFrom, AllSmooth};
 
 // Whether the circle of triangle a b c, of which side s runs from a to b, holds the third corner beyond s, asked at the lower side of a pair.
 fn is_held(
@@ -34,7 +34,7 @@ fn is_held(
 ) -> bool
     requires { ⌜ Plotted (office (now xs) (now ys) (now corners)) × Mated (now corners) (now mate) × (s < length (now corners)) ⌝ }
     requires { ⌜ Cornering (office (now xs) (now ys) (now corners)) s area (a .x) (a .y) (b .x) (b .y) (c .x) (c .y) ⌝ }
-    ensures { λ b. ⌜ (b ≡ false → Clear (office (now (xs .entry)) (now (ys .entry)) (now (corners .entry))) s) ⌝ }
+    ensures { λ b. ⌜ (b ≡ false → Clear (office (now (xs .entry)) (now (ys .entry)) (now (corners .entry))) s) × (b ≡ true → invaded (office (now (xs .entry)) (now (ys .entry)) (now (corners .entry))) (s / 3) ≡ true) ⌝ }
 {
     let r = wide(mate[s]);
     if (r <= s) | (corners.len() <= r) {
@@ -48,7 +48,7 @@ fn is_held(
 // Whether the circle of triangle t holds the corner just beyond one of its sides.
 fn is_bad(xs: &[u16], ys: &[u16], corners: &[u16], mate: &[u16; 6129], t: usize) -> bool
     requires { ⌜ Plotted (office (now xs) (now ys) (now corners)) × Mated (now corners) (now mate) × (t < length (now corners) / 3) ⌝ }
-    ensures { λ b. ⌜ (b ≡ false → Clears (office (now (xs .entry)) (now (ys .entry)) (now (corners .entry))) t) ⌝ }
+    ensures { λ b. ⌜ (b ≡ false → Clears (office (now (xs .entry)) (now (ys .entry)) (now (corners .entry))) t) × (b ≡ true → invaded (office (now (xs .entry)) (now (ys .entry)) (now (corners .entry))) t ≡ true) ⌝ }
 {
     let s = t * 3;
     let a = corner_at(xs, ys, corners, s);
@@ -60,20 +60,21 @@ fn is_bad(xs: &[u16], ys: &[u16], corners: &[u16], mate: &[u16; 6129], t: usize)
         | is_held(xs, ys, corners, mate, s + 2, area, c, a, b)
 }
 
-// Whether no circle holds the corner just beyond one of its sides.
-fn is_local(xs: &[u16], ys: &[u16], corners: &[u16], mate: &[u16; 6129]) -> bool
+// The first triangle whose circle holds the corner just beyond one of its sides, each pair of triangles asked at its lower one; or the
+// number of triangles.
+pub fn first_bad(xs: &[u16], ys: &[u16], corners: &[u16], mate: &[u16; 6129]) -> usize
     requires { ⌜ Plotted (office (now xs) (now ys) (now corners)) × Mated (now corners) (now mate) ⌝ }
-    ensures { λ b. ⌜ (b ≡ true → AllClear (office (now (xs .entry)) (now (ys .entry)) (now (corners .entry)))) ⌝ }
+    ensures { λ r. ⌜ Foremost (office (now (xs .entry)) (now (ys .entry)) (now (corners .entry))) r × (length (now (corners .entry)) / 3 ≤ r → AllClear (office (now (xs .entry)) (now (ys .entry)) (now (corners .entry)))) ⌝ }
 {
     let n = corners.len() / 3;
     let mut t = 0;
     while t < n {
         if is_bad(xs, ys, corners, mate, t) {
-            return false;
+            return t;
         }
         t += 1;
     }
-    true
+    t
 }
 
 // By x, then by y, for coordinates up to 16,383.
@@ -119,80 +120,47 @@ fn is_wrong(ax: u16, ay: u16, bx: u16, by: u16, cx: u16, cy: u16, lowest: bool) 
     (turn(ax, ay, bx, by, cx, cy) < 0) | ((b < a) & (b < c) & !lowest)
 }
 
-// Whether side s is on the rim and none goes on from it there, or the way along both is wrong.
+// Whether the rim goes from point p to where it ends, or the way along both sides is wrong.
 fn is_odd(
     xs: &[u16],
     ys: &[u16],
     corners: &[u16],
-    mate: &[u16; 6129],
     onward: &[u16; 1024],
-    s: usize,
+    p: usize,
     lowest: usize,
 ) -> bool
-    requires { ⌜ Plotted (office (now xs) (now ys) (now corners)) × Mated (now corners) (now mate) × (s < length (now corners)) ⌝ }
-    ensures { λ b. ⌜ (b ≡ false → Smooth (office (now (xs .entry)) (now (ys .entry)) (now (corners .entry))) lowest s) ⌝ }
+    requires { ⌜ Plotted (office (now xs) (now ys) (now corners)) × Leaving (now corners) (now onward) × (p < length (now xs)) ⌝ }
+    ensures { λ b. ⌜ (b ≡ false → SmoothFrom (office (now (xs .entry)) (now (ys .entry)) (now (corners .entry))) lowest p) ⌝ }
 {
-    let bare = is_rim(corners, mate, s);
-    if !bare {
+    let s = wide(onward[p]);
+    if corners.len() <= s {
         return false;
     }
     let e = next_of(s);
-    let p = wide(corners[e]);
-    let r = wide(onward[p]);
+    let q = wide(corners[e]);
+    let r = wide(onward[q]);
     if corners.len() <= r {
         return true;
     }
-    let q = wide(corners[r]);
-    if p != q {
-        return true;
-    }
-    let on = is_rim(corners, mate, r);
-    if !on {
-        return true;
-    }
-    let a = corner_at(xs, ys, corners, s);
-    let b = corner_at(xs, ys, corners, e);
     let f = next_of(r);
+    let a = point_at(xs, ys, corners, p);
+    let b = point_at(xs, ys, corners, q);
     let c = corner_at(xs, ys, corners, f);
-    is_wrong(a.x, a.y, b.x, b.y, c.x, c.y, p == lowest)
+    is_wrong(a.x, a.y, b.x, b.y, c.x, c.y, q == lowest)
 }
 
-// Whether the rim never turns right, and goes round once. `onward` names for each point a side that may go on from there.
-fn is_convex(
-    xs: &[u16],
-    ys: &[u16],
-    corners: &[u16],
-    mate: &[u16; 6129],
-    onward: &[u16; 1024],
-) -> bool
-    requires { ⌜ Plotted (office (now xs) (now ys) (now corners)) × Mated (now corners) (now mate) ⌝ }
+// Whether the rim never turns right, and goes round once, by the first rim side from each point.
+pub fn is_convex(xs: &[u16], ys: &[u16], corners: &[u16], onward: &[u16; 1024]) -> bool
+    requires { ⌜ Plotted (office (now xs) (now ys) (now corners)) × Leaving (now corners) (now onward) ⌝ }
     ensures { λ b. ⌜ (b ≡ true → AllSmooth (office (now (xs .entry)) (now (ys .entry)) (now (corners .entry)))) ⌝ }
 {
     let lowest = lowest_point(xs, ys);
-    let mut s = 0;
-    while s < corners.len() {
-        if is_odd(xs, ys, corners, mate, onward, s, lowest) {
+    let mut p = 0;
+    while p < xs.len() {
+        if is_odd(xs, ys, corners, onward, p, lowest) {
             return false;
         }
-        s += 1;
+        p += 1;
     }
     true
-}
-
-// Whether both hold.
-pub fn is_neat(
-    xs: &[u16],
-    ys: &[u16],
-    corners: &[u16],
-    mate: &[u16; 6129],
-    onward: &[u16; 1024],
-) -> bool
-    requires { ⌜ Plotted (office (now xs) (now ys) (now corners)) × Mated (now corners) (now mate) ⌝ }
-    ensures { λ b. ⌜ (b ≡ true → Neat (office (now (xs .entry)) (now (ys .entry)) (now (corners .entry)))) ⌝ }
-{
-    let convex = is_convex(xs, ys, corners, mate, onward);
-    if !convex {
-        return false;
-    }
-    is_local(xs, ys, corners, mate)
 }

@@ -1,7 +1,6 @@
 -- `sheet::circles::is_below` meets its contract: the numbers of its code, in the code's order. Assumes nothing.
 use mathlib.Core.Path.{refl, ap}
 use Prim.Native.Nat.{_≤_}
-use borrow.Author.Needs.{needs}
 use lib.IntN.{ℤ, pos, natAbs}
 use lib.Signed.{ltZ}
 use mir.Syntax.{w32, w64}

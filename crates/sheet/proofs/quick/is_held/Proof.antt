@@ -1,5 +1,5 @@
 -- `sheet::quick::is_held` meets its contract. Assumes nothing.
-use mathlib.Core.Path.{_≡_, subst, _∙_}
+use mathlib.Core.Path.{_≡_, refl, subst, _∙_}
 use mathlib.Core.Bool.{true, _||_}
 use mathlib.Core.Logic.{inl, inr}
 use Prim.Native.Nat.{ℕ, _<_}
@@ -9,10 +9,11 @@ use lib.Dec.{leb}
 use lib.ListN.{length}
 use Rattle.laws.proofs.Fill.{table-at}
 use Rattle.laws.proofs.Test.{plain, or-iff, neither-iff, leb-iff}
-use Rattle.sheet.specs.Office.{office, tail, mate-of}
+use Rattle.sheet.specs.Office.{office, tail, last, mate-of}
 use Rattle.sheet.specs.Code.{At}
+use Rattle.sheet.proofs.Cancel.{differ}
 use Rattle.sheet.proofs.Side.{last-below}
-use Rattle.sheet.proofs.Neat.{clear-at}
+use Rattle.sheet.proofs.Neat.{clear-at, invaded-at}
 use Rattle.sheet.proofs.quick.is_held.Statement.{statement}
 use Rattle.sheet.proofs.quick.is_held.Tie as tie
 
@@ -24,7 +25,7 @@ not-asked : {m r s n : ℕ} → m ≡ r → (leb m s || leb n m) ≡ true → s 
 not-asked {m} {r} {s} {n} e t l b = elim (or-iff {a = leb m s} .0 t) [ inl x ↦ (let y = leb-iff {a = m} {b = s} .0 x in omega arith) | inr x ↦ (let y = leb-iff {a = n} {b = m} .0 x in omega arith) ]
 
 returns : tie.Need-returns
-returns c e l b h = not-asked (mate-is (c .before)) (c .if1 .taken) l b
+returns c = ((λ e l b h. not-asked (mate-is (c .before)) (c .if1 .taken) l b), (λ e. differ e refl))
 
 below : (c : tie.Else1) → c .before .wide .result < length (c .before .before .before .before .before .before .args .corners .now)
 below c = let t = neither-iff {a = leb (c .before .wide .result) (c .before .before .before .before .before .before .args .s)} {b = leb (length (c .before .before .before .before .before .before .args .corners .now)) (c .before .wide .result)} .0 (c .if1 .left) in let u = simp plain at (t .1) in omega arith
@@ -39,8 +40,9 @@ returns-2 : tie.Need-returns-2
 returns-2 c =
     let s = c .before .before .before .before .before .before .before .before .before in
     let o = office (s .args .xs .now) (s .args .ys .now) (s .args .corners .now) in
-    clear-at o (s .args .s) (c .before .before .before .before .wide .result) (mate-is (c .before .before .before .before)) (s .pre .1 .from) (s .pre .1 .to) (s .pre .1 .third)
-    (subst (λ k. At o (tail o k) (c .before .corner-at .result .x) (c .before .corner-at .result .y)) (c .before .before .last-of .ensures) (c .before .corner-at .ensures)) (c .holds .ensures)
+    let r = c .before .before .before .before .wide .result in
+    let d = subst (λ k. At o (tail o k) (c .before .corner-at .result .x) (c .before .corner-at .result .y)) (c .before .before .last-of .ensures) (c .before .corner-at .ensures) in
+    (clear-at o (s .args .s) r (mate-is (c .before .before .before .before)) (s .pre .1 .from) (s .pre .1 .to) (s .pre .1 .third) d (c .holds .ensures), invaded-at o (s .args .s) r (s .pre .0 .0 .numbered (last r) (last-below _ r (s .pre .0 .0 .whole) (below (c .before .before .before)))) (s .pre .1 .from) (s .pre .1 .to) (s .pre .1 .third) d (c .holds .ensures))
 
 pub is-held-spec : {M : Type 1} → statement M
 is-held-spec =
