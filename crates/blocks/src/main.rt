@@ -1,5 +1,7 @@
 // What the readers answer for blocks from outside: a line each, with the ring or the district's rings, or with the refusal's number and place
 // and, where a polygon's coordinate is refused, what it is. A value off the grid is shown by its pattern.
+#![tactic(auto)]
+
 mod stored;
 
 ghost use Rattle.std.specs.Prelude.{◌≤◌, length};

@@ -14,7 +14,7 @@ use shape::{Reading, numbers, reader, writer};
 use sheet::Refusal;
 
 // Where polygons one after another end.
-#[derive(Drop)]
+#[derive(Clone, Copy)]
 pub enum Scan {
     To(usize),
     Refused(Refusal),

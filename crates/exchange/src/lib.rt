@@ -1,6 +1,8 @@
 // Layer 3, polygon bytes: write a ring, read a ring, judge one coordinate; surveyors' point files; and district files. Document 01, 'Polygon
 // bytes', and document 02, 1/13 and 3/13. Numbers, coordinates and one polygon at a place are shape's.
 // No call asks anything of its caller, and a refusal writes nothing.
+#![tactic(auto)]
+
 mod districts;
 mod points;
 
@@ -18,20 +20,20 @@ use shape::{coordinates, reader, writer};
 use sheet::Refusal;
 
 // The count of points.
-#[derive(Drop)]
+#[derive(Clone, Copy)]
 pub enum Surveyed {
     Points(usize),
     Refused(Refusal),
 }
 
 // The number of rings.
-#[derive(Drop)]
+#[derive(Clone, Copy)]
 pub enum District {
     Rings(usize),
     Refused(Refusal),
 }
 
-#[derive(Drop)]
+#[derive(Clone, Copy)]
 pub enum Judged {
     As(Coordinate),
     Refused(Refusal),

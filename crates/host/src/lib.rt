@@ -1,4 +1,6 @@
 // The console's C function, over all three layers. Document 01, 'Polygon bytes', last paragraph.
+#![tactic(auto)]
+
 mod blocks;
 mod rings;
 

@@ -1,5 +1,7 @@
 // The list printer's text: parsing an office, and printing a line. Document 01, 'The printed list'.
 // No call asks anything of its caller, and a refusal writes nothing.
+#![tactic(auto)]
+
 mod parser;
 mod printer;
 
@@ -10,7 +12,7 @@ ghost use Rattle.listing.specs.Line.{line, refusal_line};
 use sheet::Refusal;
 
 // What parsing answers: the point count and the triangle count, or a refusal.
-#[derive(Drop)]
+#[derive(Clone, Copy)]
 pub enum Parsed {
     Counts(usize, usize),
     Refused(Refusal),

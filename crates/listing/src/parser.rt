@@ -11,7 +11,7 @@ use crate::Parsed;
 use sheet::Refusal;
 
 // How many numbers a text says, or that it says none.
-#[derive(Drop)]
+#[derive(Clone, Copy)]
 pub enum Numbers {
     Count(usize),
     Fault,

@@ -1,5 +1,7 @@
 // The list printer: reads an office on standard input and prints a line per entry. Document 01, 'The printed list'.
 // One byte more than a text may have is read, so that a longer one is seen. It stops where the output takes no more.
+#![tactic(auto)]
+
 use listing::Parsed;
 use peel::{Drawn, Listed};
 use sheet::Refusal;

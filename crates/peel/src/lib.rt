@@ -1,4 +1,6 @@
 // Layer 2, peeling: draw, outline and list. Document 01, 'Peeling'.
+#![tactic(auto)]
+
 mod drawing;
 mod listing;
 mod room;
@@ -13,14 +15,14 @@ use room::{draw_room, list_room};
 use sheet::{Checked, Refusal, check_mates};
 
 // What a draw answers.
-#[derive(Drop)]
+#[derive(Clone, Copy)]
 pub enum Drawn {
     Outline(Tally),
     Refused(Refusal),
 }
 
 // What a list answers: how many entries there are, or a refusal.
-#[derive(Drop)]
+#[derive(Clone, Copy)]
 pub enum Listed {
     Entries(usize),
     Refused(Refusal),

@@ -19,7 +19,7 @@ use rim::start::begin;
 use rim::step::step;
 
 // How many entries a list has, and the tally of the last.
-#[derive(Drop)]
+#[derive(Clone, Copy)]
 pub struct Ended {
     pub count: usize,
     pub tally: Tally,

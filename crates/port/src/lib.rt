@@ -1,5 +1,7 @@
 // One thin function for each public call, for programs in other languages that compare or measure the library. Lent memory is passed on as it
 // is. Answers go into four lent numbers: 0 and the values, or 1, the refusal's number and its place.
+#![tactic(auto)]
+
 use exchange::{Coordinate, District, Judged, Reading, Surveyed, Written};
 use peel::{Drawn, Listed, Tally};
 use sheet::{Checked, Refusal};

@@ -1,5 +1,7 @@
 // Layer 2, one peel on the rim: the marks and the tally before the first peel, a step, and the ring. Document 01, 'Peeling'.
 // For the layers above: no public call, so a `requires` may stand.
+#![tactic(auto)]
+
 pub mod answers;
 pub mod keys;
 pub mod queue;
@@ -11,7 +13,7 @@ pub mod step;
 ghost use Rattle.std.specs.Prelude.{◌≡◌, ◌+◌, ◌<◌};
 
 // The running tally: triangles peeled, twice the area of those kept, and the ring's length.
-#[derive(Drop)]
+#[derive(Clone, Copy)]
 pub struct Tally {
     pub peeled: u32,
     pub area: u32,

@@ -10,7 +10,7 @@ use crate::{Reading, coordinates, numbers};
 use sheet::Refusal;
 
 // What stands against some fields, read left to right.
-#[derive(Drop)]
+#[derive(Clone, Copy)]
 pub enum Fault {
     Nothing,
     At(Refusal),

@@ -12,7 +12,7 @@ use super::plane::{dot, turn};
 use super::spots::{corner_at, point_at};
 
 // The in-circle value at (x, y) is across x + up y + rest - lift (x² + y²): the first four once a triangle, three products a point.
-#[derive(Drop)]
+#[derive(Clone, Copy)]
 pub struct Circle {
     pub across: i64,
     pub up: i64,

@@ -1,5 +1,7 @@
 // Layer 1, the check: is this a Delaunay triangulation of these points? Document 01, 'What makes a triangulation acceptable'.
 // Points go by their x and y lists, triangles by a flat list of three point numbers each.
+#![tactic(auto)]
+
 pub mod circles;
 pub mod plane;
 pub mod points;
@@ -25,14 +27,14 @@ use sides::{chain_sides, pair_sides};
 use triangles::{first_double, first_flat, first_no_point, first_unused};
 
 // Document 01's number for what is wrong, and where.
-#[derive(Drop)]
+#[derive(Clone, Copy)]
 pub struct Refusal {
     pub number: u8,
     pub place: usize,
 }
 
 // What the check answers: the rim's length, or a refusal.
-#[derive(Drop)]
+#[derive(Clone, Copy)]
 pub enum Checked {
     Accepted(usize),
     Refused(Refusal),

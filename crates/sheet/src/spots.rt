@@ -5,7 +5,7 @@ ghost use Rattle.sheet.specs.Code.{Plotted, At};
 
 use super::plane::wide;
 
-#[derive(Drop)]
+#[derive(Clone, Copy)]
 pub struct Spot {
     pub x: u16,
     pub y: u16,

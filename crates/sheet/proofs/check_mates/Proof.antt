@@ -7,17 +7,16 @@ use Rattle.sheet.proofs.Handed.{hands}
 use Rattle.sheet.proofs.check_mates.Statement.{statement}
 use Rattle.sheet.proofs.check_mates.Tie as tie
 
-returns : tie.Need-returns
+returns : tie.Need-returns-in-Accepted
 returns c =
-    let s = c.before.before.before.before.before.before.before.before in
-    let made = c.before.before.before.check-sizes.new.1.1.1.1.0 in
-    (sym (ap answer c.before.hull.given.1) ∙ c.before.before.before.check-sizes.ensures.0, hands s.args.corners.now made c.before.hull.given.0.0 (subst (λ r. Ready (answer r) s.args.corners.now (replicate 6129 0) made) c.before.hull.given.1 c.before.before.before.check-sizes.ensures.1))
+    let made = c.check_sizes.new.mate in
+    (sym (ap answer c.hull-1.given.1) ∙ c.check_sizes.ensures.0, hands c.args.corners.now made c.hull-1.given.0.0 (subst (λ r. Ready (answer r) c.args.corners.now (replicate 6129 0) made) c.hull-1.given.1 c.check_sizes.ensures.1))
 
-returns-2 : tie.Need-returns-2
-returns-2 c = (sym (ap answer c.before.refusal.given.1) ∙ c.before.before.before.check-sizes.ensures.0, refl)
+returns-2 : tie.Need-returns-in-Refused
+returns-2 c = (sym (ap answer c.refusal-1.given.1) ∙ c.check_sizes.ensures.0, refl)
 
-pub check-mates-spec : {M : Type 1} → statement M
-check-mates-spec =
+pub check_mates_spec : {M : Type 1} → statement M
+check_mates_spec =
     tie.close
     (tie.spec
     (λ c κs. search rules)

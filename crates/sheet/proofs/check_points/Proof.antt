@@ -5,18 +5,18 @@ use Rattle.sheet.proofs.Handed.{no_table}
 use Rattle.sheet.proofs.check_points.Statement.{statement}
 use Rattle.sheet.proofs.check_points.Tie as tie
 
-pub check-points-spec : {M : Type 1} → statement M
-check-points-spec =
+pub check_points_spec : {M : Type 1} → statement M
+check_points_spec =
     tie.close
     (tie.spec
     (λ c κs. search seeking)
     (λ c κs. search seeking)
-    (λ c. (at_hit _ _ _ _ _ _ c.before.before.first-large.ensures c.before.if1.true c.refused.ensures, no_table _ _ _ c.refused.ensures))
+    (λ c. (at_hit _ _ _ _ _ _ c.first_large-large.ensures c.if-large-xs.true c.refused.ensures, no_table _ _ _ c.refused.ensures))
     (λ c κs. search seeking)
     (λ c κs. search seeking)
-    (λ c. (at_none _ _ _ _ _ _ c.before.before.before.before.first-large.ensures c.before.before.before.if1.false (at_hit _ _ _ _ _ _ c.before.before.first-again.ensures c.before.if2.true c.refused2.ensures), no_table _ _ _ c.refused2.ensures))
+    (λ c. (at_none _ _ _ _ _ _ c.first_large-large.ensures c.if-large-xs.false (at_hit _ _ _ _ _ _ c.first_again-again.ensures c.if-again-xs.true c.refused-then-again-xs.ensures), no_table _ _ _ c.refused-then-again-xs.ensures))
     (λ c κs. search seeking)
     (λ c κs. search seeking)
-    (λ c. (at_none _ _ _ _ _ _ c.before.before.before.before.before.before.first-large.ensures c.before.before.before.before.before.if1.false (at_none _ _ _ _ _ _ c.before.before.before.before.first-again.ensures c.before.before.before.if2.false (at_hit _ _ _ _ _ _ c.before.before.first-no-point.ensures c.before.if3.true c.refused3.ensures)), no_table _ _ _ c.refused3.ensures))
-    (λ c κs. let s = c.before.before.before.before.before.before.before.before.before.before in (plots _ _ _ _ _ _ s.requires.0 s.requires.1 s.requires.2 s.requires.3 s.requires.4 c.before.before.before.before.before.before.first-large.ensures c.before.before.before.before.before.if1.false c.before.before.before.before.first-again.ensures c.before.before.before.if2.false c.before.before.first-no-point.ensures c.before.if3.false, s.requires.5))
-    (λ c. (at_none _ _ _ _ _ _ c.before.before.before.before.before.before.before.first-large.ensures c.before.before.before.before.before.before.if1.false (at_none _ _ _ _ _ _ c.before.before.before.before.before.first-again.ensures c.before.before.before.before.if2.false (at_none _ _ _ _ _ _ c.before.before.before.first-no-point.ensures c.before.before.if3.false c.check-areas.ensures.0)), c.check-areas.ensures.1)))
+    (λ c. (at_none _ _ _ _ _ _ c.first_large-large.ensures c.if-large-xs.false (at_none _ _ _ _ _ _ c.first_again-again.ensures c.if-again-xs.false (at_hit _ _ _ _ _ _ c.first_no_point-no_point.ensures c.if-no_point-corners.true c.refused-then-no_point-corners.ensures)), no_table _ _ _ c.refused-then-no_point-corners.ensures))
+    (λ c κs. (plots _ _ _ _ _ _ c.requires.0 c.requires.1 c.requires.2 c.requires.3 c.requires.4 c.first_large-large.ensures c.if-large-xs.false c.first_again-again.ensures c.if-again-xs.false c.first_no_point-no_point.ensures c.if-no_point-corners.false, c.requires.5))
+    (λ c. (at_none _ _ _ _ _ _ c.first_large-large.ensures c.if-large-xs.false (at_none _ _ _ _ _ _ c.first_again-again.ensures c.if-again-xs.false (at_none _ _ _ _ _ _ c.first_no_point-no_point.ensures c.if-no_point-corners.false c.check_areas.ensures.0)), c.check_areas.ensures.1)))

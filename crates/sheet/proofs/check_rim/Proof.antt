@@ -15,39 +15,37 @@ use Rattle.sheet.proofs.check_rim.Tie as tie
 low : (c : tie.Start) → Numbered c.args.corners.now 1024
 low c = low_numbers (office c.args.xs.now c.args.ys.now c.args.corners.now) c.requires.0
 
-ring-requires : tie.Need-is-one-ring-requires
+ring-requires : tie.Need-is_one_ring-one-requires
 ring-requires c κs =
-    let s = c.before.before.before.before.before.before in
-    let p = s.requires.0 in
-    ((s.requires.4, p.short, c.before.leaving.ensures, low s), c.before.before.rim-length.ensures)
+    let p = c.requires.0 in
+    ((c.requires.4, p.short, c.leaving-onward.ensures, low c.before.before.before.before.before.before), c.rim_length-rim.ensures)
 
-at_once : tie.Need-returns
+at_once : tie.Need-returns-then-one-convex
 at_once c =
-    let s = c.before.before.before.before.before.before.before.before.before.before.before in
-    let (h, n) = (and_iff {a = c.before.before.before.before.is-one-ring.result && c.before.before.is-convex.result}).0 c.if1.true in
-    let (one, convex) = (and_iff {a = c.before.before.before.before.is-one-ring.result}).0 h in
-    ap accepted c.before.before.before.before.before.before.before.rim-length.ensures
-    ∙ sym (neat_accepted (office s.args.xs.now s.args.ys.now s.args.corners.now) s.requires.0 s.requires.1 s.requires.2 s.requires.3 (sym c.before.before.before.before.is-one-ring.ensures ∙ one) (record { clear = c.before.first_bad.ensures.1 (leb_iff.0 n); smooth = c.before.before.is-convex.ensures convex }))
+    let (h, n) = (and_iff {a = c.is_one_ring-one.result && c.is_convex-convex.result}).0 c.if-one-convex.true in
+    let (one, convex) = (and_iff {a = c.is_one_ring-one.result}).0 h in
+    ap accepted c.rim_length-rim.ensures
+    ∙ sym (neat_accepted (office c.args.xs.now c.args.ys.now c.args.corners.now) c.requires.0 c.requires.1 c.requires.2 c.requires.3 (sym c.is_one_ring-one.ensures ∙ one) (record { clear = c.first_bad-bad.ensures.1 (leb_iff.0 n); smooth = c.is_convex-convex.ensures convex }))
 
-accepts : tie.Need-returns-5
-accepts c = at_none _ _ _ _ _ _ c.before.before.before.before.first-invaded.ensures c.before.before.before.if2.false (when_sound _ (ap not (sym c.before.before.before.before.before.before.before.before.before.is-one-ring.ensures) ∙ c.before.before.if3.false) (at_none _ _ _ _ _ _ c.before.first-outer.ensures c.if4.false (ap accepted c.before.before.before.before.before.before.before.before.before.before.before.before.rim-length.ensures)))
+accepts : tie.Need-returns
+accepts c = at_none _ _ _ _ _ _ c.first_invaded-invaded.ensures c.if-invaded-corners.false (when_sound _ (ap not (sym c.is_one_ring-one.ensures) ∙ c.if-not-one.false) (at_none _ _ _ _ _ _ c.first_outer-outer.ensures c.if-outer-xs.false (ap accepted c.rim_length-rim.ensures)))
 
-pub check-rim-spec : {M : Type 1} → statement M
-check-rim-spec =
+pub check_rim_spec : {M : Type 1} → statement M
+check_rim_spec =
     tie.close
     (tie.spec
     (λ c κs. search rules)
-    (λ c κs. let s = c.before.before.before.before in (s.requires.4, s.requires.0.short, low s))
+    (λ c κs. (c.requires.4, c.requires.0.short, low c.before.before.before.before))
     ring-requires
-    (λ c κs. (c.before.before.before.before.before.before.before.before.requires.0, c.before.before.before.leaving.ensures))
+    (λ c κs. (c.requires.0, c.leaving-onward.ensures))
     (λ c κs. search rules)
     at_once
-    (λ c κs. (c.before.before.before.before.before.before.before.before.before.before.before.requires.0, c.before.first_bad.ensures.0))
+    (λ c κs. (c.requires.0, c.first_bad-bad.ensures.0))
     (λ c κs. search rules)
-    (λ c. at_hit _ _ _ _ _ _ c.before.before.first-invaded.ensures c.before.if2.true c.refused.ensures)
+    (λ c. at_hit _ _ _ _ _ _ c.first_invaded-invaded.ensures c.if-invaded-corners.true c.refused.ensures)
     (λ c κs. search rules)
-    (λ c. at_none _ _ _ _ _ _ c.before.before.before.first-invaded.ensures c.before.before.if2.false (when_broken _ (ap not (sym c.before.before.before.before.before.before.before.before.is-one-ring.ensures) ∙ c.before.if3.true) c.refused2.ensures))
+    (λ c. at_none _ _ _ _ _ _ c.first_invaded-invaded.ensures c.if-invaded-corners.false (when_broken _ (ap not (sym c.is_one_ring-one.ensures) ∙ c.if-not-one.true) c.refused-then-not-one.ensures))
     (λ c κs. search rules)
     (λ c κs. search rules)
-    (λ c. at_none _ _ _ _ _ _ c.before.before.before.before.before.first-invaded.ensures c.before.before.before.before.if2.false (when_sound _ (ap not (sym c.before.before.before.before.before.before.before.before.before.before.is-one-ring.ensures) ∙ c.before.before.before.if3.false) (at_hit _ _ _ _ _ _ c.before.before.first-outer.ensures c.before.if4.true c.refused3.ensures)))
+    (λ c. at_none _ _ _ _ _ _ c.first_invaded-invaded.ensures c.if-invaded-corners.false (when_sound _ (ap not (sym c.is_one_ring-one.ensures) ∙ c.if-not-one.false) (at_hit _ _ _ _ _ _ c.first_outer-outer.ensures c.if-outer-xs.true c.refused-then-outer-xs.ensures)))
     accepts)

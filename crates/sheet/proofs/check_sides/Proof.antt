@@ -17,37 +17,35 @@ use Rattle.sheet.proofs.check_sides.Tie as tie
 abbrev of : tie.Start → Office
 of s = office s.args.xs.now s.args.ys.now s.args.corners.now
 
-pair-sides-requires : tie.Need-pair-sides-requires
-pair-sides-requires c κs = let s = c.before.before.before.before.before.before.before.before.before in (s.requires.0.whole, s.requires.0.short, low_numbers (of s) s.requires.0, c.before.before.before.chain-sides.ensures, s.requires.2)
+pair-sides-requires : tie.Need-pair_sides-single-requires
+pair-sides-requires c κs = (c.requires.0.whole, c.requires.0.short, low_numbers (of c) c.requires.0, c.chain_sides.ensures, c.requires.2)
 
 -- where the pairing stops, there is a triangle to name
-found : (c : tie.After-first-double) → c.first-double.result < triangles (of c.before.before.before.before.before.before.before.before.before.before.before.before.before)
+found : (c : tie.After-first_double) → c.first_double.result < triangles (of c.before.before.before.before.before.before.before.before.before.before.before.before.before)
 found c =
-    let s = c.before.before.before.before.before.before.before.before.before.before.before.before.before in
-    elim (dec_lt c.first-double.result (triangles (of s))) [
+    elim (dec_lt c.first_double.result (triangles (of c))) [
       | yes l ↦ l
-      | no f ↦ absurd (c.before.before.before.pair-sides.ensures.1 (false_iff.1 (not_iff.0 c.before.before.if1.true)) (single_from (of s) s.requires.0.whole s.requires.1 c.first-double.result c.first-double.ensures (omega arith)))
+      | no f ↦ absurd (c.pair_sides-single.ensures.1 (false_iff.1 (not_iff.0 c.if-not-single.true)) (single_from (of c) c.requires.0.whole c.requires.1 c.first_double.result c.first_double.ensures (omega arith)))
     ]
 
-single : (c : tie.Else1) → Single (of c.before.before.before.before.before.before.before.before.before.before.before)
-single c = (c.before.pair-sides.ensures.0 (kept_iff.0 c.if1.false)).0
+single : (c : tie.Else-not-single) → Single (of c.before.before.before.before.before.before.before.before.before.before.before)
+single c = (c.pair_sides-single.ensures.0 (kept_iff.0 c.if-not-single.false)).0
 
-check-rim-requires : tie.Need-check-rim-requires
+check-rim-requires : tie.Need-check_rim-requires
 check-rim-requires c κs =
-    let s = c.before.before.before.before.before.before.before.before.before.before.before.before.before.before.before in
-    (s.requires.0, s.requires.1, single c.before.before.before.before, used_from (of s) c.before.before.first-unused.result c.before.before.first-unused.ensures c.before.if2.false, (c.before.before.before.before.before.pair-sides.ensures.0 (kept_iff.0 c.before.before.before.before.if1.false)).1)
+    (c.requires.0, c.requires.1, single c.before.before.before, used_from (of c) c.first_unused-unused.result c.first_unused-unused.ensures c.if-unused-xs.false, (c.pair_sides-single.ensures.0 (kept_iff.0 c.if-not-single.false)).1)
 
-pub check-sides-spec : {M : Type 1} → statement M
-check-sides-spec =
+pub check_sides_spec : {M : Type 1} → statement M
+check_sides_spec =
     tie.close
     (tie.spec
-    (λ c κs. let s = c.before.before.before.before.before in (low_numbers (of s) s.requires.0, s.requires.0.short))
+    (λ c κs. (low_numbers (of c) c.requires.0, c.requires.0.short))
     pair-sides-requires
-    (λ c κs. let s = c.before.before.before.before.before.before.before.before.before.before.before.before in ((s.requires.0.whole, s.requires.0.short, cornered_of (of s) s.requires.0.whole s.requires.1), c.before.before.before.before.before.before.chain-sides.ensures.earlier_is))
+    (λ c κs. ((c.requires.0.whole, c.requires.0.short, cornered_of (of c) c.requires.0.whole c.requires.1), c.chain_sides.ensures.earlier_is))
     (λ c κs. search rules)
-    (λ c. (at_hit _ _ _ _ _ _ c.before.first-double.ensures (found c.before) c.refused.ensures, no_table _ _ _ c.refused.ensures))
+    (λ c. (at_hit _ _ _ _ _ _ c.first_double.ensures (found c.before) c.refused.ensures, no_table _ _ _ c.refused.ensures))
     (λ c κs. search rules)
     (λ c κs. search rules)
-    (λ c. (at_none _ _ _ _ _ _ refl (none_double (of c.before.before.before.before.before.before.before.before.before.before.before.before.before.before.before) (single c.before.before.before.before)) (at_hit _ _ _ _ _ _ c.before.before.first-unused.ensures c.before.if2.true c.refused2.ensures), no_table _ _ _ c.refused2.ensures))
+    (λ c. (at_none _ _ _ _ _ _ refl (none_double (of c.before.before.before.before.before.before.before.before.before.before.before.before.before.before.before) (single c.before.before.before.before)) (at_hit _ _ _ _ _ _ c.first_unused-unused.ensures c.if-unused-xs.true c.refused-then-unused-xs.ensures), no_table _ _ _ c.refused-then-unused-xs.ensures))
     check-rim-requires
-    (λ c. (at_none _ _ _ _ _ _ refl (none_double (of c.before.before.before.before.before.before.before.before.before.before.before.before.before.before.before.before) (single c.before.before.before.before.before)) (at_none _ _ _ _ _ _ c.before.before.before.first-unused.ensures c.before.before.if2.false c.check-rim.ensures), (let s = c.before.before.before.before.before.before.before.before.before.before.before.before.before.before.before.before in let h = c.before.before.before.before.before.before.pair-sides.ensures.0 (kept_iff.0 c.before.before.before.before.before.if1.false) in a_table s.args.corners.now s.args.mate.now c.before.before.before.before.before.before.pair-sides.new.1.1.1.0 (answer c.check-rim.result) h.1 h.2))))
+    (λ c. (at_none _ _ _ _ _ _ refl (none_double (of c.before.before.before.before.before.before.before.before.before.before.before.before.before.before.before.before) (single c.before.before.before.before)) (at_none _ _ _ _ _ _ c.first_unused-unused.ensures c.if-unused-xs.false c.check_rim.ensures), (let h = c.pair_sides-single.ensures.0 (kept_iff.0 c.if-not-single.false) in a_table c.args.corners.now c.args.mate.now c.pair_sides-single.new.mate (answer c.check_rim.result) h.1 h.2))))

@@ -19,29 +19,29 @@ sizes n m e f =
     let k = simp plain at f in
     (omega arith, omega arith, k.0.1, omega arith)
 
-returns : tie.Need-returns
+returns : tie.Need-returns-then-xs-ys
 unfolding verdict
-returns c = (when_broken _ (ap not (ne_eqb _ _ c.before.if1.true)) c.refused.ensures, no_table _ _ _ c.refused.ensures)
+returns c = (when_broken _ (ap not (ne_eqb _ _ c.if-xs-ys.true)) c.refused.ensures, no_table _ _ _ c.refused.ensures)
 
-returns-2 : tie.Need-returns-2
+returns-2 : tie.Need-returns-then-xs
 unfolding verdict
-returns-2 c = (when_sound _ (ap not (eq-eqb _ _ c.before.before.if1.false)) (when_broken _ c.before.if2.true c.refused2.ensures), no_table _ _ _ c.refused2.ensures)
+returns-2 c = (when_sound _ (ap not (eq-eqb _ _ c.if-xs-ys.false)) (when_broken _ c.if-xs.true c.refused-then-xs.ensures), no_table _ _ _ c.refused-then-xs.ensures)
 
-returns-3 : tie.Need-returns-3
+returns-3 : tie.Need-returns-then-corners
 unfolding verdict
-returns-3 c = (when_sound _ (ap not (eq-eqb _ _ c.before.before.before.if1.false)) (when_sound _ c.before.before.if2.false (when_broken _ c.before.if3.true c.refused3.ensures)), no_table _ _ _ c.refused3.ensures)
+returns-3 c = (when_sound _ (ap not (eq-eqb _ _ c.if-xs-ys.false)) (when_sound _ c.if-xs.false (when_broken _ c.if-corners.true c.refused-then-corners.ensures)), no_table _ _ _ c.refused-then-corners.ensures)
 
-returns-4 : tie.Need-returns-4
+returns-4 : tie.Need-returns-then-not-room
 unfolding verdict
-returns-4 c = (when_sound _ (ap not (eq-eqb _ _ c.before.before.before.before.if1.false)) (when_sound _ c.before.before.before.if2.false (when_sound _ c.before.before.if3.false (when_broken _ c.before.if4.true c.refused4.ensures))), no_table _ _ _ c.refused4.ensures)
+returns-4 c = (when_sound _ (ap not (eq-eqb _ _ c.if-xs-ys.false)) (when_sound _ c.if-xs.false (when_sound _ c.if-corners.false (when_broken _ c.if-not-room.true c.refused-then-not-room.ensures))), no_table _ _ _ c.refused-then-not-room.ensures)
 
-returns-5 : tie.Need-returns-5
+returns-5 : tie.Need-returns
 unfolding verdict
 returns-5 c =
-    (when_sound _ (ap not (eq-eqb _ _ c.before.before.before.before.before.if1.false)) (when_sound _ c.before.before.before.before.if2.false (when_sound _ c.before.before.before.if3.false (when_sound _ c.before.before.if4.false c.check-points.ensures.0))), c.check-points.ensures.1)
+    (when_sound _ (ap not (eq-eqb _ _ c.if-xs-ys.false)) (when_sound _ c.if-xs.false (when_sound _ c.if-corners.false (when_sound _ c.if-not-room.false c.check_points.ensures.0))), c.check_points.ensures.1)
 
-pub check-sizes-spec : {M : Type 1} → statement M
-check-sizes-spec =
+pub check_sizes_spec : {M : Type 1} → statement M
+check_sizes_spec =
     tie.close
     (tie.spec
     (λ c κs. search rules)
@@ -52,5 +52,5 @@ check-sizes-spec =
     returns-3
     (λ c κs. search rules)
     returns-4
-    (λ c κs. let (a, b, d, e) = sizes _ _ c.before.before.before.if2.false c.before.before.if3.false in (c.before.before.before.before.if1.false, a, b, d, e, c.before.before.before.before.before.before.before.before.requires))
+    (λ c κs. let (a, b, d, e) = sizes _ _ c.if-xs.false c.if-corners.false in (c.if-xs-ys.false, a, b, d, e, c.requires))
     returns-5)

@@ -14,14 +14,14 @@ use Rattle.sheet.proofs.circles.bend.Tie as tie
 
 module _ (c : tie.After-turn) where
   -- the turn, in 32 bits and in 64
-  turned : to_z w32 (of_z w32 c.turn.result) ≡ turn (spot c.before.args.ax c.before.args.ay) (spot c.before.args.bx c.before.args.by) (spot c.before.args.cx c.before.args.cy)
+  turned : to_z w32 (of_z w32 c.turn.result) ≡ turn (spot c.args.ax c.args.ay) (spot c.args.bx c.args.by) (spot c.args.cx c.args.cy)
   turned = to_z-of_z (search rules) ∙ c.turn.ensures
 
   abbrev all : Num w64
-  all = got 536805378 _ _ turned (turn_bound _ _ _ c.before.requires.0 c.before.requires.1 c.before.requires.2) tt
+  all = got 536805378 _ _ turned (turn_bound _ _ _ c.requires.0 c.requires.1 c.requires.2) tt
 
-pub bend-spec : {M : Type 1} → statement M
-bend-spec =
+pub bend_spec : {M : Type 1} → statement M
+bend_spec =
     tie.close
     (tie.spec
     (λ c κs. search rules)

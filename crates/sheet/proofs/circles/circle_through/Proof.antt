@@ -8,17 +8,17 @@ use Rattle.sheet.proofs.circles.circle_through.Tie as tie
 
 returns : tie.Need-returns
 returns c = record {
-  across_is = to_z-of_z (search rules) ∙ c.before.before.before.before.before.before.before.before.before.weighted.ensures
-      ∙ weighed (got c.before.before.before.before.before.before.before.before.before.before.before.before.before.before.before.raised.ensures) (got c.before.before.before.before.before.before.before.before.before.before.before.before.gap.ensures) (got c.before.before.before.before.before.before.before.before.before.before.before.before.before.before.raised2.ensures) (got c.before.before.before.before.before.before.before.before.before.before.before.gap2.ensures) (got c.before.before.before.before.before.before.before.before.before.before.before.before.before.raised3.ensures) (got c.before.before.before.before.before.before.before.before.before.before.gap3.ensures);
-  up_is = to_z-of_z (search rules) ∙ c.before.before.before.before.before.weighted2.ensures
-      ∙ weighed (got c.before.before.before.before.before.before.before.before.before.before.before.before.before.before.before.raised.ensures) (got c.before.before.before.before.before.before.before.before.gap4.ensures) (got c.before.before.before.before.before.before.before.before.before.before.before.before.before.before.raised2.ensures) (got c.before.before.before.before.before.before.before.gap5.ensures) (got c.before.before.before.before.before.before.before.before.before.before.before.before.before.raised3.ensures) (got c.before.before.before.before.before.before.gap6.ensures);
-  rest_is = to_z-of_z (search rules) ∙ c.before.weighted3.ensures
-      ∙ weighed (got c.before.before.before.before.before.before.before.before.before.before.before.before.before.before.before.raised.ensures) (got c.before.before.before.before.cross.ensures) (got c.before.before.before.before.before.before.before.before.before.before.before.before.before.before.raised2.ensures) (got c.before.before.before.cross2.ensures) (got c.before.before.before.before.before.before.before.before.before.before.before.before.before.raised3.ensures) (got c.before.before.cross3.ensures);
-  lift_is = got c.bend.ensures;
+  across_is = to_z-of_z (search rules) ∙ c.weighted-across.ensures
+      ∙ weighed (got c.raised-a.ensures) (got c.gap.ensures) (got c.raised-b.ensures) (got c.gap-2.ensures) (got c.raised-c.ensures) (got c.gap-3.ensures);
+  up_is = to_z-of_z (search rules) ∙ c.weighted-up.ensures
+      ∙ weighed (got c.raised-a.ensures) (got c.gap-4.ensures) (got c.raised-b.ensures) (got c.gap-5.ensures) (got c.raised-c.ensures) (got c.gap-6.ensures);
+  rest_is = to_z-of_z (search rules) ∙ c.weighted-rest.ensures
+      ∙ weighed (got c.raised-a.ensures) (got c.cross.ensures) (got c.raised-b.ensures) (got c.cross-2.ensures) (got c.raised-c.ensures) (got c.cross-3.ensures);
+  lift_is = got c.bend-lift.ensures;
 }
 
-pub circle-through-spec : {M : Type 1} → statement M
-circle-through-spec =
+pub circle_through_spec : {M : Type 1} → statement M
+circle_through_spec =
     tie.close
     (tie.spec
     (λ c κs. search rules)

@@ -14,8 +14,8 @@ module _ (c : tie.Start) where
   abbrev all : Num w64
   all = minus (times (nat 16383 _ c.requires.0.0 tt) (nat 16383 _ c.requires.1.1 tt) tt) (times (nat 16383 _ c.requires.1.0 tt) (nat 16383 _ c.requires.0.1 tt) tt) tt
 
-pub cross-spec : {M : Type 1} → statement M
-cross-spec =
+pub cross_spec : {M : Type 1} → statement M
+cross_spec =
     tie.close
     (tie.spec
     (λ c. search (rules, (all c).seen))

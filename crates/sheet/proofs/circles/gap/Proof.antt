@@ -13,8 +13,8 @@ use Rattle.sheet.proofs.circles.gap.Tie as tie
 abbrev all : tie.Start → Num w64
 all c = apart 16383 _ _ c.requires.1 c.requires.0 tt
 
-pub gap-spec : {M : Type 1} → statement M
-gap-spec =
+pub gap_spec : {M : Type 1} → statement M
+gap_spec =
     tie.close
     (tie.spec
     (λ c. search (rules, (all c).seen))

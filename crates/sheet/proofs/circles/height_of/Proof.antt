@@ -6,8 +6,8 @@ use borrow.Author.Rules.{rules}
 use Rattle.sheet.proofs.circles.height_of.Statement.{statement}
 use Rattle.sheet.proofs.circles.height_of.Tie as tie
 
-pub height-of-spec : {M : Type 1} → statement M
-height-of-spec =
+pub height_of_spec : {M : Type 1} → statement M
+height_of_spec =
     tie.close
     (tie.spec
     (λ c. omega (arith, mul-le-mul c.requires.0 c.requires.0))

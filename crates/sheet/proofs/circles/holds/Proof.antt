@@ -47,18 +47,17 @@ module _ (c : tie.Start) where
   beyond : nat_abs (dot d a b) ≤ 536805378
   beyond = dot_bound d a b c.requires.3 c.requires.0 c.requires.1
 
-is-below-requires : tie.Need-is-below-requires
-is-below-requires c κs = let s = c.before.before.before in (small c.before.before.dot.ensures (near s), small c.turn.ensures (turned s), small s.requires.4 (area s), small c.before.dot2.ensures (beyond s))
+is-below-requires : tie.Need-is_below-requires
+is-below-requires c κs = (small c.dot-near.ensures (near c.before.before.before), small c.turn.ensures (turned c.before.before.before), small c.requires.4 (area c.before.before.before), small c.dot-beyond.ensures (beyond c.before.before.before))
 
 returns : tie.Need-returns
 returns c =
-    let s = c.before.before.before.before in
     c.is_below.ensures
-    ∙ ap (λ z. lt_z z (pos 0)) (ap₂ ◌+ℤ◌ (ap₂ ◌*ℤ◌ (read c.before.before.before.dot.ensures (near s)) (read c.before.turn.ensures (turned s))) (ap₂ ◌*ℤ◌ (read s.requires.4 (area s)) (read c.before.before.dot2.ensures (beyond s))))
-    ∙ by_angles (a s) (b s) (third s) (d s)
+    ∙ ap (λ z. lt_z z (pos 0)) (ap₂ ◌+ℤ◌ (ap₂ ◌*ℤ◌ (read c.dot-near.ensures (near c.before.before.before.before)) (read c.turn.ensures (turned c.before.before.before.before))) (ap₂ ◌*ℤ◌ (read c.requires.4 (area c.before.before.before.before)) (read c.dot-beyond.ensures (beyond c.before.before.before.before))))
+    ∙ by_angles (a c.before.before.before.before) (b c.before.before.before.before) (third c.before.before.before.before) (d c.before.before.before.before)
 
-pub holds-spec : {M : Type 1} → statement M
-holds-spec =
+pub holds_spec : {M : Type 1} → statement M
+holds_spec =
     tie.close
     (tie.spec
     (λ c κs. search rules)

@@ -18,8 +18,8 @@ module _ (c : tie.Start) where
   abbrev all : Num w64
   all = plus (times (cast c.args.a c.requires.0) (cast c.args.u c.requires.1) tt) (times (cast c.args.b c.requires.2) (cast c.args.v c.requires.3) tt) tt
 
-pub is-below-spec : {M : Type 1} → statement M
-is-below-spec =
+pub is_below_spec : {M : Type 1} → statement M
+is_below_spec =
     tie.close
     (tie.spec
     (λ c. search (all c).seen)

@@ -22,8 +22,8 @@ module _ (c : tie.Start) where
 returns : tie.Need-returns
 returns c = ap (lt_z (pos 0)) (all c.before.before.before.before.before.before.before.before).reads
 
-pub is-inside-spec : {M : Type 1} → statement M
-is-inside-spec =
+pub is_inside_spec : {M : Type 1} → statement M
+is_inside_spec =
     tie.close
     (tie.spec
     (λ c. search rules)

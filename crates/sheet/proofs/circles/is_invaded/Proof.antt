@@ -14,16 +14,16 @@ use Rattle.sheet.proofs.Linear.{inside_at, coefficients_fit, height_fits}
 use Rattle.sheet.proofs.circles.is_invaded.Statement.{statement}
 use Rattle.sheet.proofs.circles.is_invaded.Tie as tie
 
-abbrev invariant-loop : tie.invariant-loop
+abbrev invariant-loop : tie.invariant-loop-p
 invariant-loop xs ys corners raised t s circle p₀ p = Sought (inside (office xs ys corners) t) (length xs) p
 
-abbrev decreases-loop : tie.decreases-loop
+abbrev decreases-loop : tie.decreases-loop-p
 decreases-loop xs ys corners raised t s circle p₀ p = length xs - p
 
-abbrev start : tie.After-circle-through invariant-loop decreases-loop → tie.Start invariant-loop decreases-loop
+abbrev start : tie.After-circle_through-circle invariant-loop decreases-loop → tie.Start invariant-loop decreases-loop
 start b = b.before.before.before.before.before.before.before
 
-abbrev office-of : tie.After-circle-through invariant-loop decreases-loop → Office
+abbrev office-of : tie.After-circle_through-circle invariant-loop decreases-loop → Office
 office-of b = office (start b).args.xs.now (start b).args.ys.now (start b).args.corners.now
 
 module _ (b : tie.After-circle-through invariant-loop decreases-loop) (p : ℕ) (l : p < points (office-of b)) where
@@ -38,8 +38,8 @@ module _ (b : tie.After-circle-through invariant-loop decreases-loop) (p : ℕ) 
       let f = coefficients_fit b.before.before.before.corner_at.ensures.small b.before.before.corner-at2.ensures.small b.before.corner-at3.ensures.small b.circle-through.ensures in
       ((f.across_fits, f.up_fits, f.rest_fits, f.lift_fits), ((start b).pre.0.0.small p l, height_fits (office-of b) p (start b).args.raised.now (start b).pre.0.0 (start b).pre.1 l))
 
-pub is-invaded-spec : {M : Type 1} → statement M
-is-invaded-spec =
+pub is_invaded_spec : {M : Type 1} → statement M
+is_invaded_spec =
     tie.close
     (tie.spec invariant-loop decreases-loop
     (λ c. search seeking)
@@ -56,9 +56,9 @@ is-invaded-spec =
     (λ c. omega (arith, (start c.before.before.before.before).pre.0.0.paired))
     (λ c. search seeking)
     (λ c. omega (arith, (start c.before.before.before.before).pre.0.0.few))
-    (λ c κs. requires c.before.before.before.before.before c.before.before.before.before.loop.p c.before.before.before.loop-test.true)
-    (λ c. finds c.before.before.before.before.before.before.loop.invariant c.before.before.before.before.before.loop-test.true (c.before.is-inside.ensures ∙ tested c.before.before.before.before.before.before.before c.before.before.before.before.before.before.loop.p c.before.before.before.before.before.loop-test.true) c.if1.true)
-    (λ c. omega (arith, (start c.before.before.before.before.before.before.before).pre.0.0.few, c.before.before.before.before.before.loop-test.true))
+    (λ c κs. requires c.before.before.before.before.before c.loop-p.p c.loop-p-test.true)
+    (λ c. finds c.loop-p.invariant c.loop-p-test.true (c.is_inside.ensures ∙ tested c.before.before.before.before.before.before.before c.loop-p.p c.loop-p-test.true) c.if-is_inside.true)
+    (λ c. omega (arith, (start c.before.before.before.before.before.before.before).pre.0.0.few, c.loop-p-test.true))
     (λ c. search seeking)
-    (λ c. goes_on c.before.before.before.before.before.before.loop.invariant c.before.before.before.before.before.loop-test.true (c.before.is-inside.ensures ∙ tested c.before.before.before.before.before.before.before c.before.before.before.before.before.before.loop.p c.before.before.before.before.before.loop-test.true) c.if1.false)
+    (λ c. goes_on c.loop-p.invariant c.loop-p-test.true (c.is_inside.ensures ∙ tested c.before.before.before.before.before.before.before c.loop-p.p c.loop-p-test.true) c.if-is_inside.false)
     (λ c. search seeking))

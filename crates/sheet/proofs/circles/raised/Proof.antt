@@ -9,13 +9,13 @@ use Rattle.laws.proofs.Exact.{Num, nat}
 use Rattle.sheet.proofs.circles.raised.Statement.{statement}
 use Rattle.sheet.proofs.circles.raised.Tie as tie
 
-abbrev all : tie.After-height-of → Num w64
+abbrev all : tie.After-height_of → Num w64
 all c = nat 536805378 c.height-of.result c.height-of.ensures.1 tt
 
-pub raised-spec : {M : Type 1} → statement M
-raised-spec =
+pub raised_spec : {M : Type 1} → statement M
+raised_spec =
     tie.close
     (tie.spec
     (λ c κs. search rules)
     (λ c. search rules)
-    (λ c. ((all c).reads ∙ ap pos c.height-of.ensures.0, subst (λ z. nat_abs z ≤ 536805378) (sym (all c).reads) (all c).small)))
+    (λ c. ((all c).reads ∙ ap pos c.height_of.ensures.0, subst (λ z. nat_abs z ≤ 536805378) (sym (all c).reads) (all c).small)))

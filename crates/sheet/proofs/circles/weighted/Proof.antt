@@ -14,8 +14,8 @@ module _ (c : tie.Start) where
       (times (held 536805378 c.args.b c.requires.0.1 tt) (held 536805378 c.args.v c.requires.1.1 tt) tt) tt)
       (times (held 536805378 c.args.c c.requires.0.2 tt) (held 536805378 c.args.w c.requires.1.2 tt) tt) tt
 
-pub weighted-spec : {M : Type 1} → statement M
-weighted-spec =
+pub weighted_spec : {M : Type 1} → statement M
+weighted_spec =
     tie.close
     (tie.spec
     (λ c. search (all c).seen)

@@ -21,8 +21,8 @@ module _ (c : tie.Start) where
   abbrev all : Num w32
   all = plus (times ux vx tt) (times uy vy tt) tt
 
-pub dot-spec : {M : Type 1} → statement M
-dot-spec =
+pub dot_spec : {M : Type 1} → statement M
+dot_spec =
     tie.close
     (tie.spec
     (λ c. search (rules, (all c).seen))

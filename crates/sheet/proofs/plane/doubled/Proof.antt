@@ -18,14 +18,14 @@ above_nonneg (pos n) h = tt
 above_nonneg (negsuc n) h = absurd h.lt
 
 module _ (c : tie.After-turn) where
-  reads : to_z w32 (of_z w32 c.turn.result) ≡ turn (spot c.before.args.ax c.before.args.ay) (spot c.before.args.bx c.before.args.by) (spot c.before.args.cx c.before.args.cy)
+  reads : to_z w32 (of_z w32 c.turn.result) ≡ turn (spot c.args.ax c.args.ay) (spot c.args.bx c.args.by) (spot c.args.cx c.args.cy)
   reads = to_z-of_z {w = w32} (search rules) ∙ c.turn.ensures
 
-cast-result : tie.Need-overflow-cast-result
-cast-result c = (subst (λ z. T (non_neg z)) (sym (reads c)) (above_nonneg _ c.before.requires.1), omega (arith, ap nat_abs (reads c), turn_bound (spot c.before.args.ax c.before.args.ay) (spot c.before.args.bx c.before.args.by) (spot c.before.args.cx c.before.args.cy) c.before.requires.0.0 c.before.requires.0.1 c.before.requires.0.2))
+cast-result : tie.Need-overflow_cast-result
+cast-result c = (subst (λ z. T (non_neg z)) (sym (reads c)) (above_nonneg _ c.requires.1), omega (arith, ap nat_abs (reads c), turn_bound (spot c.args.ax c.args.ay) (spot c.args.bx c.args.by) (spot c.args.cx c.args.cy) c.requires.0.0 c.requires.0.1 c.requires.0.2))
 
 returns : tie.Need-returns
 returns c = ap nat_abs (reads c)
 
-pub doubled-spec : {M : Type 1} → statement M
-doubled-spec = tie.close (tie.spec (λ c κs. search rules) cast-result returns)
+pub doubled_spec : {M : Type 1} → statement M
+doubled_spec = tie.close (tie.spec (λ c κs. search rules) cast-result returns)

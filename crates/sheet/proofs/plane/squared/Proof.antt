@@ -33,14 +33,14 @@ module _ (c : tie.Start) where
   unfolding squared
   reads = all.reads
 
-cast-result : tie.Need-overflow-cast-result
+cast-result : tie.Need-overflow_cast-result
 cast-result c = (subst (λ z. T (non_neg z)) (squared_whole (a c) (b c) ∙ sym (reads c)) tt, omega (arith, ap nat_abs (reads c), squared_bound (a c) (b c) c.requires.0 c.requires.1))
 
 returns : tie.Need-returns
 returns c = ap nat_abs (reads c)
 
-pub squared-spec : {M : Type 1} → statement M
-squared-spec =
+pub squared_spec : {M : Type 1} → statement M
+squared_spec =
     tie.close
     (tie.spec
     (λ c. search (rules, (all c).seen))

@@ -15,37 +15,33 @@ use Rattle.sheet.proofs.Again.{bucket_at}
 use Rattle.sheet.proofs.points.first_again.Statement.{statement}
 use Rattle.sheet.proofs.points.first_again.Tie as tie
 
-abbrev invariant-loop : tie.invariant-loop
+abbrev invariant-loop : tie.invariant-loop-p
 invariant-loop xs ys earlier₀ latest₀ p₀ earlier latest p = Sought (again (cloud xs ys)) (length xs) p × Chaining 1024 (buckets xs ys) earlier latest p
 
-abbrev decreases-loop : tie.decreases-loop
+abbrev decreases-loop : tie.decreases-loop-p
 decreases-loop xs ys earlier₀ latest₀ p₀ earlier latest p = length xs - p
 
-low : (c : tie.After-bucket-of invariant-loop decreases-loop) → c.bucket-of.result < 1024
-low c = omega (arith, c.bucket-of.ensures)
+low : (c : tie.After-bucket_of-b invariant-loop decreases-loop) → c.bucket_of-b.result < 1024
+low c = omega (arith, c.bucket_of-b.ensures)
 
-is-again-requires : tie.Need-is-again-requires invariant-loop decreases-loop
+is-again-requires : tie.Need-is_again-requires invariant-loop decreases-loop
 is-again-requires c κs =
-    let s = c.before.before.before.before.before.before.before.before.before in
-    let i = c.before.before.before.before.before.before.loop.invariant in
-    let b = c.before.before in
-    ((s.requires.0, s.requires.1, c.before.before.before.before.before.loop-test.true, c.before.wide.ensures ∙ i.1.latest_is b.bucket-of.result (low b) ∙ ap (λ k. final 65535 (code.starts (buckets s.args.xs.now s.args.ys.now) k) c.before.before.before.before.before.before.loop.p) b.bucket-of.ensures), i.1.earlier_is)
+    let i = c.loop-p.invariant in
+    ((c.requires.0, c.requires.1, c.loop-p-test.true, c.wide-begun.ensures ∙ i.1.latest_is c.bucket_of-b.result (low c.before.before) ∙ ap (λ k. final 65535 (code.starts (buckets c.args.xs.now c.args.ys.now) k) c.loop-p.p) c.bucket_of-b.ensures), i.1.earlier_is)
 
-returns : tie.Need-returns invariant-loop decreases-loop
-returns c = hits c.before.before.before.before.before.before.before.before.loop.invariant.0 c.before.before.before.before.before.before.before.loop-test.true c.before.is-again.ensures c.if1.true
+returns : tie.Need-returns-then-is_again invariant-loop decreases-loop
+returns c = hits c.loop-p.invariant.0 c.loop-p-test.true c.is_again.ensures c.if-is_again.true
 
-loop-again : tie.Need-loop-preserved invariant-loop decreases-loop
+loop-again : tie.Need-loop-p-preserved invariant-loop decreases-loop
 loop-again c =
-    let s = c.before.before.before.before.before.before.before.before.before.before.before in
-    let i = c.before.before.before.before.before.before.before.before.loop.invariant in
-    let p = c.before.before.before.before.before.before.before.before.loop.p in
-    let l = c.before.before.before.before.before.before.before.loop-test.true in
-    let b = c.before.before.before.before in
-    let long = length-table (λ q. bucket (get_or s.args.xs.now q 0) (get_or s.args.ys.now q 0)) (length s.args.xs.now) in
-    (goes_on i.0 l c.before.is-again.ensures c.if1.false, chains_one i.1 b.bucket-of.result (b.bucket-of.ensures ∙ sym (bucket_at s.args.xs.now s.args.ys.now p l)) (low b) (omega (arith, l, long)) (omega (arith, s.requires, long)))
+    let i = c.loop-p.invariant in
+    let p = c.loop-p.p in
+    let l = c.loop-p-test.true in
+    let long = length-table (λ q. bucket (get_or c.args.xs.now q 0) (get_or c.args.ys.now q 0)) (length c.args.xs.now) in
+    (goes_on i.0 l c.is_again.ensures c.if-is_again.false, chains_one i.1 c.bucket_of-b.result (c.bucket_of-b.ensures ∙ sym (bucket_at c.args.xs.now c.args.ys.now p l)) (low c.before.before.before.before) (omega (arith, l, long)) (omega (arith, c.requires, long)))
 
-pub first-again-spec : {M : Type 1} → statement M
-first-again-spec =
+pub first_again_spec : {M : Type 1} → statement M
+first_again_spec =
     tie.close
     (tie.spec invariant-loop decreases-loop
     (λ c. (starts, chains_none _ _))
@@ -62,11 +58,11 @@ first-again-spec =
     (λ c. omega (arith, low c.before.before.before.before))
     (λ c. low c.before.before.before.before)
     (λ c. search rules)
-    (λ c. omega (arith, c.before.before.before.before.before.before.before.loop-test.true, c.before.before.before.before.before.before.before.before.before.before.before.requires))
-    (λ c. omega (arith, c.before.before.before.before.before.before.before.loop-test.true, c.before.before.before.before.before.before.before.before.before.before.before.requires))
+    (λ c. omega (arith, c.loop-p-test.true, c.requires))
+    (λ c. omega (arith, c.loop-p-test.true, c.requires))
     (λ c. omega (arith, low c.before.before.before.before))
     (λ c. low c.before.before.before.before)
     (λ c. search rules)
     (λ c. search rules)
     loop-again
-    (λ c. ends c.before.loop.invariant.0 c.loop-test.false))
+    (λ c. ends c.loop-p.invariant.0 c.loop-p-test.false))

@@ -7,14 +7,14 @@ use Rattle.sheet.specs.Code.{cloud}
 use Rattle.sheet.proofs.points.first_large.Statement.{statement}
 use Rattle.sheet.proofs.points.first_large.Tie as tie
 
-abbrev invariant-loop : tie.invariant-loop
+abbrev invariant-loop : tie.invariant-loop-p
 invariant-loop xs ys p₀ p = Sought (large (cloud xs ys)) (length xs) p
 
-abbrev decreases-loop : tie.decreases-loop
+abbrev decreases-loop : tie.decreases-loop-p
 decreases-loop xs ys p₀ p = length xs - p
 
-pub first-large-spec : {M : Type 1} → statement M
-first-large-spec =
+pub first_large_spec : {M : Type 1} → statement M
+first_large_spec =
     tie.close
     (tie.spec invariant-loop decreases-loop
     (λ c. search seeking)

@@ -13,53 +13,50 @@ use Rattle.sheet.proofs.Again.{again_is}
 use Rattle.sheet.proofs.points.is_again.Statement.{statement}
 use Rattle.sheet.proofs.points.is_again.Tie as tie
 
-abbrev invariant-loop : tie.invariant-loop
+abbrev invariant-loop : tie.invariant-loop-q
 invariant-loop xs ys earlier p begun q₀ q = Back (buckets xs ys) p (same_point (cloud xs ys) p) begun q
 
-abbrev decreases-loop : tie.decreases-loop
+abbrev decreases-loop : tie.decreases-loop-q
 decreases-loop xs ys earlier p begun q₀ q = rank q
 
 answered : (s : tie.Start invariant-loop decreases-loop) → ltb (along (buckets s.args.xs.now s.args.ys.now) (same_point (cloud s.args.xs.now s.args.ys.now) s.args.p) s.args.begun) 65535 ≡ again (cloud s.args.xs.now s.args.ys.now) s.args.p
 answered s = again_is s.args.xs.now s.args.ys.now s.args.p s.args.begun s.requires.0.2 s.requires.0.1 s.requires.0.3
 
-loop-holds : tie.Need-loop-init invariant-loop decreases-loop
+loop-holds : tie.Need-loop-q-init invariant-loop decreases-loop
 loop-holds c =
-    let s = c.before.before in
-    back_starts (latest_there (buckets s.args.xs.now s.args.ys.now) (bucket (get_or s.args.xs.now s.args.p 0) (get_or s.args.ys.now s.args.p 0)) s.args.p s.args.begun s.requires.0.3 (omega (arith, s.requires.0)))
+    back_starts (latest_there (buckets c.args.xs.now c.args.ys.now) (bucket (get_or c.args.xs.now c.args.p 0) (get_or c.args.ys.now c.args.p 0)) c.args.p c.args.begun c.requires.0.3 (omega (arith, c.requires.0)))
 
-returns : tie.Need-returns invariant-loop decreases-loop
+returns : tie.Need-returns-then-is_same_point invariant-loop decreases-loop
 returns c =
-    sym (lt-ltb _ 65535 c.before.before.loop-test.true)
-    ∙ ap (λ r. ltb r 65535) (back_found c.before.before.before.loop.invariant c.before.before.loop-test.true (sym c.before.is-same-point.ensures ∙ c.if1.true))
+    sym (lt-ltb _ 65535 c.loop-q-test.true)
+    ∙ ap (λ r. ltb r 65535) (back_found c.loop-q.invariant c.loop-q-test.true (sym c.is_same_point.ensures ∙ c.if-is_same_point.true))
     ∙ answered c.before.before.before.before.before.before
 
-next_is : (c : tie.After-wide invariant-loop decreases-loop) → (let s = c.before.before.before.before.before.before.before.before in c.wide.result ≡ final 65535 (starts (buckets s.args.xs.now s.args.ys.now) (get_or (buckets s.args.xs.now s.args.ys.now) c.before.before.before.before.before.loop.q 0)) c.before.before.before.before.before.loop.q)
+next_is : (c : tie.After-wide-q invariant-loop decreases-loop) → (c.wide-q.result ≡ final 65535 (starts (buckets c.args.xs.now c.args.ys.now) (get_or (buckets c.args.xs.now c.args.ys.now) c.loop-q.q 0)) c.loop-q.q)
 next_is c =
-    let s = c.before.before.before.before.before.before.before.before in
-    let i = c.before.before.before.before.before in
-    c.wide.ensures ∙ s.requires.1 i.loop.q (i.loop.invariant.there c.before.before.before.before.loop-test.true)
+    c.wide-q.ensures ∙ c.requires.1 c.loop-q.q (c.loop-q.invariant.there c.loop-q-test.true)
 
-loop-less : tie.Need-loop-smaller invariant-loop decreases-loop
-loop-less c = back_falls c.before.before.before.before.before.loop.invariant c.before.before.before.before.loop-test.true (next_is c)
+loop-less : tie.Need-loop-q-smaller invariant-loop decreases-loop
+loop-less c = back_falls c.loop-q.invariant c.loop-q-test.true (next_is c)
 
-loop-again : tie.Need-loop-preserved invariant-loop decreases-loop
+loop-again : tie.Need-loop-q-preserved invariant-loop decreases-loop
 loop-again c =
-    back_goes c.before.before.before.before.before.loop.invariant c.before.before.before.before.loop-test.true
-    (sym c.before.before.before.is-same-point.ensures ∙ c.before.before.if1.false) (next_is c)
+    back_goes c.loop-q.invariant c.loop-q-test.true
+    (sym c.is_same_point.ensures ∙ c.if-is_same_point.false) (next_is c)
 
-returns-2 : tie.Need-returns-2 invariant-loop decreases-loop
+returns-2 : tie.Need-returns invariant-loop decreases-loop
 returns-2 c =
-    ap (λ r. ltb r 65535) (back_ends c.before.loop.invariant c.loop-test.false) ∙ answered c.before.before.before.before
+    ap (λ r. ltb r 65535) (back_ends c.loop-q.invariant c.loop-q-test.false) ∙ answered c.before.before.before.before
 
-pub is-again-spec : {M : Type 1} → statement M
-is-again-spec =
+pub is_again_spec : {M : Type 1} → statement M
+is_again_spec =
     tie.close
     (tie.spec invariant-loop decreases-loop
     loop-holds
-    (λ c κs. let s = c.before.before.before.before in (s.requires.0.0, s.requires.0.2, omega (arith, c.before.loop.invariant.there c.loop-test.true, s.requires.0.2)))
+    (λ c κs. (c.requires.0.0, c.requires.0.2, omega (arith, c.loop-q.invariant.there c.loop-q-test.true, c.requires.0.2)))
     returns
     (λ c. search rules)
-    (λ c. omega (arith, c.before.before.before.loop.invariant.there c.before.before.loop-test.true, c.before.before.before.before.before.before.requires.0))
+    (λ c. omega (arith, c.loop-q.invariant.there c.loop-q-test.true, c.requires.0))
     (λ c κs. search rules)
     loop-less
     loop-again

@@ -10,22 +10,21 @@ use Rattle.sheet.proofs.Neat.{all_clear}
 use Rattle.sheet.proofs.quick.first_bad.Statement.{statement}
 use Rattle.sheet.proofs.quick.first_bad.Tie as tie
 
-abbrev invariant-loop : tie.invariant-loop
+abbrev invariant-loop : tie.invariant-loop-t
 invariant-loop xs ys corners mate n t₀ t = Passed (Clears (office xs ys corners)) (length corners / 3) t
 
-abbrev decreases-loop : tie.decreases-loop
+abbrev decreases-loop : tie.decreases-loop-t
 decreases-loop xs ys corners mate n t₀ t = length corners / 3 - t
 
-returns : tie.Need-returns invariant-loop decreases-loop
-returns c = (record { within = omega (arith, c.before.before.loop-test.true); is_invaded = λ l. c.before.is-bad.ensures.1 c.if1.true }, (λ l. absurd (omega (arith, c.before.before.loop-test.true))))
+returns : tie.Need-returns-then-is_bad invariant-loop decreases-loop
+returns c = (record { within = omega (arith, c.loop-t-test.true); is_invaded = λ l. c.is_bad.ensures.1 c.if-is_bad.true }, (λ l. absurd (omega (arith, c.loop-t-test.true))))
 
-returns-2 : tie.Need-returns-2 invariant-loop decreases-loop
+returns-2 : tie.Need-returns invariant-loop decreases-loop
 returns-2 c =
-    let s = c.before.before.before.before.before in
-    (record { within = c.before.loop.invariant.within; is_invaded = λ l. absurd (omega (arith, c.loop-test.false)) }, (λ l. all_clear (office s.args.xs.now s.args.ys.now s.args.corners.now) s.requires.0.whole (passed_all c.before.loop.invariant c.loop-test.false)))
+    (record { within = c.loop-t.invariant.within; is_invaded = λ l. absurd (omega (arith, c.loop-t-test.false)) }, (λ l. all_clear (office c.args.xs.now c.args.ys.now c.args.corners.now) c.requires.0.whole (passed_all c.loop-t.invariant c.loop-t-test.false)))
 
-pub first-bad-spec : {M : Type 1} → statement M
-first-bad-spec =
+pub first_bad_spec : {M : Type 1} → statement M
+first_bad_spec =
     tie.close
     (tie.spec invariant-loop decreases-loop
     (λ c. passed_none)
@@ -33,5 +32,5 @@ first-bad-spec =
     returns
     (λ c. search rules)
     (λ c. search rules)
-    (λ c. passed_one c.before.before.before.loop.invariant c.before.before.loop-test.true (c.before.is-bad.ensures.0 c.if1.false))
+    (λ c. passed_one c.loop-t.invariant c.loop-t-test.true (c.is_bad.ensures.0 c.if-is_bad.false))
     returns-2)

@@ -10,21 +10,21 @@ use Rattle.sheet.proofs.Cancel.{differ}
 use Rattle.sheet.proofs.quick.is_convex.Statement.{statement}
 use Rattle.sheet.proofs.quick.is_convex.Tie as tie
 
-abbrev invariant-loop : tie.invariant-loop
+abbrev invariant-loop : tie.invariant-loop-p
 invariant-loop xs ys corners onward lowest p₀ p = Passed (SmoothFrom (office xs ys corners) lowest) (length xs) p
 
-abbrev decreases-loop : tie.decreases-loop
+abbrev decreases-loop : tie.decreases-loop-p
 decreases-loop xs ys corners onward lowest p₀ p = length xs - p
 
-pub is-convex-spec : {M : Type 1} → statement M
-is-convex-spec =
+pub is_convex_spec : {M : Type 1} → statement M
+is_convex_spec =
     tie.close
     (tie.spec invariant-loop decreases-loop
     (λ c κs. search rules)
     (λ c. passed_none)
-    (λ c κs. let s = c.before.before.before.before.before.before in (s.requires.0, s.requires.1, c.loop-test.true))
+    (λ c κs. (c.requires.0, c.requires.1, c.loop-p-test.true))
     (λ c e. differ e refl)
     (λ c. search rules)
     (λ c. search rules)
-    (λ c. passed_one c.before.before.before.loop.invariant c.before.before.loop-test.true (c.before.is_odd.ensures c.if1.false))
+    (λ c. passed_one c.loop-p.invariant c.loop-p-test.true (c.is_odd.ensures c.if-is_odd.false))
     (λ c e. (c.before.before.lowest-point.result, passed_all c.before.loop.invariant c.loop-test.false)))

@@ -17,35 +17,34 @@ use Rattle.sheet.proofs.Neat.{clear_at, invaded_at}
 use Rattle.sheet.proofs.quick.is_held.Statement.{statement}
 use Rattle.sheet.proofs.quick.is_held.Tie as tie
 
-mate_is : (c : tie.After-wide) → (let s = c.before.before.before.before.before in c.wide.result ≡ mate_of s.args.corners.now s.args.s)
-mate_is c = let s = c.before.before.before.before.before in c.wide.ensures ∙ table_at (mate_of s.args.corners.now) (length s.args.corners.now) s.args.mate.now s.args.s s.requires.0.1 s.requires.0.2
+mate_is : (c : tie.After-wide-r) → (c.wide-r.result ≡ mate_of c.args.corners.now c.args.s)
+mate_is c = c.wide-r.ensures ∙ table_at (mate_of c.args.corners.now) (length c.args.corners.now) c.args.mate.now c.args.s c.requires.0.1 c.requires.0.2
 
 -- a side with no mate above it is not asked
 not_asked : {m r s n : ℕ} → m ≡ r → (leb m s || leb n m) ≡ true → s < r → r < n → ⊥
 not_asked {m} {r} {s} {n} e t l b = elim ((or_iff {a = leb m s}).0 t) [ inl x ↦ (let y = (leb_iff {a = m} {b = s}).0 x in omega arith) | inr x ↦ (let y = (leb_iff {a = n} {b = m}).0 x in omega arith) ]
 
-returns : tie.Need-returns
-returns c = ((λ e l b h. not_asked (mate_is c.before) c.if1.true l b), (λ e. differ e refl))
+returns : tie.Need-returns-then-r-s
+returns c = ((λ e l b h. not_asked (mate_is c.before) c.if-r-s.true l b), (λ e. differ e refl))
 
-below : (c : tie.Else1) → c.before.wide.result < length c.before.before.before.before.before.before.args.corners.now
-below c = let t = (neither_iff {a = leb c.before.wide.result c.before.before.before.before.before.before.args.s} {b = leb (length c.before.before.before.before.before.before.args.corners.now) c.before.wide.result}).0 c.if1.false in let u = simp plain at t.1 in omega arith
+below : (c : tie.Else-r-s) → c.wide-r.result < length c.args.corners.now
+below c = let t = (neither_iff {a = leb c.wide-r.result c.args.s} {b = leb (length c.args.corners.now) c.wide-r.result}).0 c.if-r-s.false in let u = simp plain at t.1 in omega arith
 
-last-of-requires : tie.Need-last-of-requires
-last-of-requires c κs = omega (arith, below c, c.before.before.before.before.before.before.requires.0.0.short)
+last-of-requires : tie.Need-last_of-l-requires
+last-of-requires c κs = omega (arith, below c, c.requires.0.0.short)
 
-corner-at-requires : tie.Need-corner-at-requires
-corner-at-requires c κs = let s = c.before.before.before.before.before.before.before in (s.requires.0.0, omega (arith, c.last_of.ensures, last_below _ c.before.before.wide.result s.requires.0.0.whole (below c.before)))
+corner-at-requires : tie.Need-corner_at-d-requires
+corner-at-requires c κs = (c.requires.0.0, omega (arith, c.last_of-l.ensures, last_below _ c.wide-r.result c.requires.0.0.whole (below c.before)))
 
-returns-2 : tie.Need-returns-2
+returns-2 : tie.Need-returns
 returns-2 c =
-    let s = c.before.before.before.before.before.before.before.before.before in
-    let o = office s.args.xs.now s.args.ys.now s.args.corners.now in
-    let r = c.before.before.before.before.wide.result in
-    let d = subst (λ k. At o (tail o k) c.before.corner_at.result.x c.before.corner_at.result.y) c.before.before.last_of.ensures c.before.corner_at.ensures in
-    (clear_at o s.args.s r (mate_is c.before.before.before.before) s.requires.1.from s.requires.1.to s.requires.1.third d c.holds.ensures, invaded_at o s.args.s r (s.requires.0.0.numbered (last r) (last_below _ r s.requires.0.0.whole (below c.before.before.before))) s.requires.1.from s.requires.1.to s.requires.1.third d c.holds.ensures)
+    let o = office c.args.xs.now c.args.ys.now c.args.corners.now in
+    let r = c.wide-r.result in
+    let d = subst (λ k. At o (tail o k) c.corner_at-d.result.x c.corner_at-d.result.y) c.last_of-l.ensures c.corner_at-d.ensures in
+    (clear_at o c.args.s r (mate_is c.before.before.before.before) c.requires.1.from c.requires.1.to c.requires.1.third d c.holds.ensures, invaded_at o c.args.s r (c.requires.0.0.numbered (last r) (last_below _ r c.requires.0.0.whole (below c.before.before.before))) c.requires.1.from c.requires.1.to c.requires.1.third d c.holds.ensures)
 
-pub is-held-spec : {M : Type 1} → statement M
-is-held-spec =
+pub is_held_spec : {M : Type 1} → statement M
+is_held_spec =
     tie.close
     (tie.spec
     (λ c. search rules)

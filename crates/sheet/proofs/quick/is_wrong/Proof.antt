@@ -10,12 +10,11 @@ use Rattle.sheet.proofs.quick.is_wrong.Tie as tie
 
 returns : tie.Need-returns
 returns c =
-    let s = c.before.before.before.before in
-    let t : to_z w32 (of_z w32 c.turn.result) ≡ turn (spot s.args.ax s.args.ay) (spot s.args.bx s.args.by) (spot s.args.cx s.args.cy) = to_z-of_z (search rules) ∙ c.turn.ensures in
-    let i = c.before.before.before.key.ensures in
-    let j = c.before.before.key2.ensures in
-    let k = c.before.key3.ensures in
+    let t : to_z w32 (of_z w32 c.turn.result) ≡ turn (spot c.args.ax c.args.ay) (spot c.args.bx c.args.by) (spot c.args.cx c.args.cy) = to_z-of_z (search rules) ∙ c.turn.ensures in
+    let i = c.key-a.ensures in
+    let j = c.key-b.ensures in
+    let k = c.key-c.ensures in
     cc
 
-pub is-wrong-spec : {M : Type 1} → statement M
-is-wrong-spec = tie.close (tie.spec (λ c κs. search rules) (λ c κs. search rules) (λ c κs. search rules) (λ c κs. search rules) returns)
+pub is_wrong_spec : {M : Type 1} → statement M
+is_wrong_spec = tie.close (tie.spec (λ c κs. search rules) (λ c κs. search rules) (λ c κs. search rules) (λ c κs. search rules) returns)

@@ -5,14 +5,14 @@ use lib.ListN.{length}
 use Rattle.sheet.proofs.quick.lowest_point.Statement.{statement}
 use Rattle.sheet.proofs.quick.lowest_point.Tie as tie
 
-abbrev invariant-loop : tie.invariant-loop
+abbrev invariant-loop : tie.invariant-loop-p
 invariant-loop xs ys best₀ least₀ p₀ best least p = p ≤ length xs
 
-abbrev decreases-loop : tie.decreases-loop
+abbrev decreases-loop : tie.decreases-loop-p
 decreases-loop xs ys best₀ least₀ p₀ best least p = length xs - p
 
-pub lowest-point-spec : {M : Type 1} → statement M
-lowest-point-spec =
+pub lowest_point_spec : {M : Type 1} → statement M
+lowest_point_spec =
     tie.close
     (tie.spec invariant-loop decreases-loop
     (λ c. search rules)

@@ -6,17 +6,17 @@ use Rattle.sheet.specs.Office.{office, outer}
 use Rattle.sheet.proofs.ring.first_outer.Statement.{statement}
 use Rattle.sheet.proofs.ring.first_outer.Tie as tie
 
-abbrev invariant-loop : tie.invariant-loop
+abbrev invariant-loop : tie.invariant-loop-p
 invariant-loop xs ys corners mate p₀ p = Sought (outer (office xs ys corners)) (length xs) p
 
-abbrev decreases-loop : tie.decreases-loop
+abbrev decreases-loop : tie.decreases-loop-p
 decreases-loop xs ys corners mate p₀ p = length xs - p
 
-begins : tie.Need-loop-init invariant-loop decreases-loop
+begins : tie.Need-loop-p-init invariant-loop decreases-loop
 begins c = starts
 
-pub first-outer-spec : {M : Type 1} → statement M
-first-outer-spec =
+pub first_outer_spec : {M : Type 1} → statement M
+first_outer_spec =
     tie.close
     (tie.spec invariant-loop decreases-loop
     begins

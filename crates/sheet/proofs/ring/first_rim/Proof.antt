@@ -6,14 +6,14 @@ use Rattle.sheet.specs.Office.{bare, rim}
 use Rattle.sheet.proofs.ring.first_rim.Statement.{statement}
 use Rattle.sheet.proofs.ring.first_rim.Tie as tie
 
-abbrev invariant-loop : tie.invariant-loop
+abbrev invariant-loop : tie.invariant-loop-s
 invariant-loop corners mate s₀ s = Sought (rim (bare corners)) (length corners) s
 
-abbrev decreases-loop : tie.decreases-loop
+abbrev decreases-loop : tie.decreases-loop-s
 decreases-loop corners mate s₀ s = length corners - s
 
-pub first-rim-spec : {M : Type 1} → statement M
-first-rim-spec =
+pub first_rim_spec : {M : Type 1} → statement M
+first_rim_spec =
     tie.close
     (tie.spec invariant-loop decreases-loop
     (λ c. search seeking)

@@ -21,10 +21,10 @@ pub record Inv (corners : List ℕ) (rim : ℕ) (seen : List ℕ) (p i : ℕ) : 
   pub here : p < 1024
   pub long : length seen ≡ 1024
 
-abbrev invariant-loop : tie.invariant-loop
+abbrev invariant-loop : tie.invariant-loop-i
 invariant-loop corners mate list rim begun seen₀ p₀ i₀ seen p i = Inv corners rim seen p i
 
-abbrev decreases-loop : tie.decreases-loop
+abbrev decreases-loop : tie.decreases-loop-i
 decreases-loop corners mate list rim begun seen₀ p₀ i₀ seen p i = rim - i
 
 -- every corner, and what stands for none, is within the array
@@ -37,23 +37,20 @@ clean q = elim (dec_lt q 1024) [
   | no f ↦ get_or-eq_default (replicate 1024 0) 0 {n = q} (let e = length-replicate {A = ℕ} 1024 0 in omega arith)
 ]
 
-begins : tie.Need-loop-init invariant-loop decreases-loop
+begins : tie.Need-loop-i-init invariant-loop decreases-loop
 begins c =
-    let b = c.before.before in
     record {
-      walked = visits_none clean c.rim-start.ensures;
-      here = subst (λ q. q < 1024) (sym c.rim-start.ensures) (low b.args.corners.now b.requires.3 _);
+      walked = visits_none clean c.rim_start-begun.ensures;
+      here = subst (λ q. q < 1024) (sym c.rim_start-begun.ensures) (low c.args.corners.now c.requires.3 _);
       long = length-replicate {A = ℕ} 1024 0;
     }
 
-goes_on : tie.Need-loop-preserved invariant-loop decreases-loop
+goes_on : tie.Need-loop-i-preserved invariant-loop decreases-loop
 goes_on c =
-    let at = c.before.before.before in
-    let b = at.before.before.before in
     record {
-      walked = visits_one at.loop.invariant.walked c.before.before.loop-test.true (omega (arith, at.loop.invariant.here, at.loop.invariant.long)) c.before.if1.false c.onward.ensures;
-      here = subst (λ q. q < 1024) (sym c.onward.ensures) (low b.args.corners.now b.requires.3 _);
-      long = simp length-set at.loop.invariant.long;
+      walked = visits_one c.loop-i.invariant.walked c.loop-i-test.true (omega (arith, c.loop-i.invariant.here, c.loop-i.invariant.long)) c.if-seen-p-eq1.false c.onward-p.ensures;
+      here = subst (λ q. q < 1024) (sym c.onward-p.ensures) (low c.args.corners.now c.requires.3 _);
+      long = simp length-set c.loop-i.invariant.long;
     }
 
 module _ (corners : List ℕ) (rim : ℕ) where
@@ -69,19 +66,19 @@ module _ (corners : List ℕ) (rim : ℕ) where
   round_is : {here : Bool} → new ≡ true → here ≡ back → here ≡ (new && back)
   round_is e f = f ∙ sym (ap (λ b. b && back) e)
 
-pub goes-round-spec : {M : Type 1} → statement M
-goes-round-spec =
+pub goes_round_spec : {M : Type 1} → statement M
+goes_round_spec =
     tie.close
     (tie.spec invariant-loop decreases-loop
     (λ c κs. search rules)
     begins
-    (λ c. omega (arith, c.before.loop.invariant.here))
-    (λ c. no_round c.before.before.before.before.before.args.corners.now c.before.before.before.before.before.args.rim (visits_twice c.before.before.loop.invariant.walked c.before.loop-test.true c.if1.true))
-    (λ c. omega (arith, c.before.before.loop.invariant.here))
-    (λ c κs. let at = c.before.before in let b = at.before.before.before in (b.requires.1, at.loop.invariant.here, b.requires.2))
+    (λ c. omega (arith, c.loop-i.invariant.here))
+    (λ c. no_round c.args.corners.now c.args.rim (visits_twice c.loop-i.invariant.walked c.loop-i-test.true c.if-seen-p-eq1.true))
+    (λ c. omega (arith, c.loop-i.invariant.here))
+    (λ c κs. (c.requires.1, c.loop-i.invariant.here, c.requires.2))
     (λ c. omega arith)
     (λ c. omega arith)
     goes_on
     (λ c.
-    let (once_is, here) = visits_all c.before.loop.invariant.walked c.loop-test.false in
-    round_is c.before.before.before.before.args.corners.now c.before.before.before.before.args.rim once_is (ap₂ eqb here c.before.before.rim-start.ensures)))
+    let (once_is, here) = visits_all c.loop-i.invariant.walked c.loop-i-test.false in
+    round_is c.args.corners.now c.args.rim once_is (ap₂ eqb here c.rim_start-begun.ensures)))

@@ -8,14 +8,14 @@ use Rattle.sheet.specs.Office.{Office, bare, after, start}
 use Rattle.sheet.proofs.ring.is_one_ring.Statement.{statement}
 use Rattle.sheet.proofs.ring.is_one_ring.Tie as tie
 
-abbrev office-of : tie.After-goes-round → Office
+abbrev office-of : tie.After-goes_round → Office
 office-of c = bare c.before.before.args.corners.now
 
-pub is-one-ring-spec : {M : Type 1} → statement M
-is-one-ring-spec =
+pub is_one_ring_spec : {M : Type 1} → statement M
+is_one_ring_spec =
     tie.close
     (tie.spec
     (λ c κs. search rules)
     (λ c.
-    ap (λ b. ltb 0 c.before.before.args.rim && b) c.goes_round.ensures
-    ∙ ap (λ n. ltb 0 n && (once (walk (after (office-of c)) (start (office-of c)) n) && eqb (stepped (after (office-of c)) (start (office-of c)) n) (start (office-of c)))) c.before.before.requires.1))
+    ap (λ b. ltb 0 c.args.rim && b) c.goes_round.ensures
+    ∙ ap (λ n. ltb 0 n && (once (walk (after (office-of c)) (start (office-of c)) n) && eqb (stepped (after (office-of c)) (start (office-of c)) n) (start (office-of c)))) c.requires.1))

@@ -6,14 +6,14 @@ use Rattle.sheet.specs.Office.{office, right}
 use Rattle.sheet.proofs.ring.is_outer.Statement.{statement}
 use Rattle.sheet.proofs.ring.is_outer.Tie as tie
 
-abbrev invariant-loop : tie.invariant-loop
+abbrev invariant-loop : tie.invariant-loop-s
 invariant-loop xs ys corners mate p s₀ s = Sought (right (office xs ys corners) p) (length corners) s
 
-abbrev decreases-loop : tie.decreases-loop
+abbrev decreases-loop : tie.decreases-loop-s
 decreases-loop xs ys corners mate p s₀ s = length corners - s
 
-pub is-outer-spec : {M : Type 1} → statement M
-is-outer-spec =
+pub is_outer_spec : {M : Type 1} → statement M
+is_outer_spec =
     tie.close
     (tie.spec invariant-loop decreases-loop
     (λ c. search seeking)

@@ -9,15 +9,15 @@ use Rattle.sheet.proofs.AtPoint.{turn_at, not_bared, bared_right}
 use Rattle.sheet.proofs.ring.is_right.Statement.{statement}
 use Rattle.sheet.proofs.ring.is_right.Tie as tie
 
-returns-2 : tie.Need-returns-2
-returns-2 c = let b = c.before.before.before.before.before.before.before.before.before in bared_right (office b.args.xs.now b.args.ys.now b.args.corners.now) b.args.p b.args.s c.before.before.before.before.before.is-rim.ensures c.before.before.before.before.if1.false (ap (λ z. lt_z z (pos 0)) (to_z-of_z (search rules) ∙ c.turn.ensures ∙ turn_at c.before.before.before.corner_at.ensures c.before.before.corner-at2.ensures c.before.point_at.ensures))
+returns-2 : tie.Need-returns
+returns-2 c = bared_right (office c.args.xs.now c.args.ys.now c.args.corners.now) c.args.p c.args.s c.is_rim-bare.ensures c.if-not-bare.false (ap (λ z. lt_z z (pos 0)) (to_z-of_z (search rules) ∙ c.turn.ensures ∙ turn_at c.corner_at-a.ensures c.corner_at-b.ensures c.point_at-q.ensures))
 
-pub is-right-spec : {M : Type 1} → statement M
-is-right-spec =
+pub is_right_spec : {M : Type 1} → statement M
+is_right_spec =
     tie.close
     (tie.spec
     (λ c κs. search rules)
-    (λ c. let b = c.before.before.before.before.before in not_bared (office b.args.xs.now b.args.ys.now b.args.corners.now) b.args.p b.args.s c.before.is-rim.ensures c.if1.true)
+    (λ c. not_bared (office c.args.xs.now c.args.ys.now c.args.corners.now) c.args.p c.args.s c.is_rim-bare.ensures c.if-not-bare.true)
     (λ c. search rules)
     (λ c. search rules)
     (λ c. search rules)

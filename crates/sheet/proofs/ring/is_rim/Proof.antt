@@ -9,11 +9,11 @@ use Rattle.sheet.specs.Office.{mate_of}
 use Rattle.sheet.proofs.ring.is_rim.Statement.{statement}
 use Rattle.sheet.proofs.ring.is_rim.Tie as tie
 
-pub is-rim-spec : {M : Type 1} → statement M
-is-rim-spec =
+pub is_rim_spec : {M : Type 1} → statement M
+is_rim_spec =
     tie.close
     (tie.spec
     (λ c. search rules)
     (λ c. search rules)
     (λ c κs. search rules)
-    (λ c. let b = c.before.before.before in ap (λ m. not (ltb m (length b.args.corners.now))) (c.wide.ensures ∙ table_at (mate_of b.args.corners.now) (length b.args.corners.now) b.args.mate.now b.args.s b.requires.0 b.requires.2)))
+    (λ c. ap (λ m. not (ltb m (length c.args.corners.now))) (c.wide-m.ensures ∙ table_at (mate_of c.args.corners.now) (length c.args.corners.now) c.args.mate.now c.args.s c.requires.0 c.requires.2)))

@@ -8,35 +8,35 @@ use Rattle.sheet.proofs.Leaving.{Seen, seen_none, seen_one, seen_all}
 use Rattle.sheet.proofs.ring.leaving.Statement.{statement}
 use Rattle.sheet.proofs.ring.leaving.Tie as tie
 
-abbrev invariant-loop : tie.invariant-loop
+abbrev invariant-loop : tie.invariant-loop-s
 invariant-loop corners mate n list₀ s₀ list s = Seen corners list s
 
-abbrev decreases-loop : tie.decreases-loop
+abbrev decreases-loop : tie.decreases-loop-s
 decreases-loop corners mate n list₀ s₀ list s = s
 
-below : (c : tie.After-wide invariant-loop decreases-loop) → c.before.before.before.loop.s - 1 < length c.before.before.before.before.before.args.corners.now
-below c = omega (arith, c.before.before.before.loop.invariant.within, c.before.before.loop-test.true)
+below : (c : tie.After-wide-p invariant-loop decreases-loop) → c.loop-s.s - 1 < length c.args.corners.now
+below c = omega (arith, c.loop-s.invariant.within, c.loop-s-test.true)
 
-low : (c : tie.After-wide invariant-loop decreases-loop) → c.wide.result < 1024
-low c = omega (arith, c.wide.ensures, c.before.before.before.before.before.requires.2 (c.before.before.before.loop.s - 1) (below c))
+low : (c : tie.After-wide-p invariant-loop decreases-loop) → c.wide-p.result < 1024
+low c = omega (arith, c.wide-p.ensures, c.requires.2 (c.loop-s.s - 1) (below c))
 
-pub leaving-spec : {M : Type 1} → statement M
-leaving-spec =
+pub leaving_spec : {M : Type 1} → statement M
+leaving_spec =
     tie.close
     (tie.spec invariant-loop decreases-loop
-    (λ c. omega (arith, c.before.requires.1))
+    (λ c. omega (arith, c.requires.1))
     (λ c. seen_none _ refl)
-    (λ c. omega (arith, c.loop-test.true))
-    (λ c. omega (arith, c.before.loop.invariant.within, c.before.before.before.requires.1))
-    (λ c. omega (arith, c.before.before.loop.invariant.within, c.before.loop-test.true))
+    (λ c. omega (arith, c.loop-s-test.true))
+    (λ c. omega (arith, c.loop-s.invariant.within, c.requires.1))
+    (λ c. omega (arith, c.loop-s.invariant.within, c.loop-s-test.true))
     (λ c κs. search rules)
     (λ c. omega (arith, low c))
     (λ c. low c)
-    (λ c κs. let s = c.before.before.before.before.before in (s.requires.0, s.requires.1, below c))
-    (λ c. omega (arith, below c.before, c.before.before.before.before.before.before.requires.1))
+    (λ c κs. (c.requires.0, c.requires.1, below c))
+    (λ c. omega (arith, below c.before, c.requires.1))
     (λ c κs. search rules)
     (λ c. omega (arith, low c.before.before))
     (λ c. low c.before.before)
-    (λ c. omega (arith, c.before.before.before.before.loop-test.true))
-    (λ c. seen_one (subst (Seen _ _) (omega (arith, c.before.before.before.before.loop-test.true)) c.before.before.before.before.before.loop.invariant) c.before.before.wide.ensures (low c.before.before) c.before.is-rim.ensures c.either_side.ensures)
-    (λ c. seen_all c.before.loop.invariant (omega (arith, c.loop-test.false))))
+    (λ c. omega (arith, c.loop-s-test.true))
+    (λ c. seen_one (subst (Seen _ _) (omega (arith, c.loop-s-test.true)) c.loop-s.invariant) c.wide-p.ensures (low c.before.before) c.is_rim.ensures c.either_side.ensures)
+    (λ c. seen_all c.loop-s.invariant (omega (arith, c.loop-s-test.false))))

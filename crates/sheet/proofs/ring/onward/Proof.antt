@@ -11,17 +11,17 @@ use Rattle.sheet.specs.Code.{leaves}
 use Rattle.sheet.proofs.ring.onward.Statement.{statement}
 use Rattle.sheet.proofs.ring.onward.Tie as tie
 
-abbrev start : tie.After-wide → tie.Start
+abbrev start : tie.After-wide-s → tie.Start
 start c = c.before.before.before
 
-side_is : (c : tie.After-wide) → (let b = start c in c.wide.result ≡ first (leaves b.args.corners.now b.args.p) (length b.args.corners.now))
-side_is c = let b = start c in c.wide.ensures ∙ b.pre.2 b.args.p b.pre.1
+side_is : (c : tie.After-wide-s) → (let b = start c in c.wide-s.result ≡ first (leaves b.args.corners.now b.args.p) (length b.args.corners.now))
+side_is c = let b = start c in c.wide-s.ensures ∙ b.pre.2 b.args.p b.pre.1
 
-few : (c : tie.After-wide) → c.wide.result ≤ 6129
+few : (c : tie.After-wide-s) → c.wide-s.result ≤ 6129
 few c = let b = start c in omega (arith, side_is c, (first_is (leaves b.args.corners.now b.args.p) (length b.args.corners.now)).within, b.pre.0)
 
-pub onward-spec : {M : Type 1} → statement M
-onward-spec =
+pub onward_spec : {M : Type 1} → statement M
+onward_spec =
     tie.close
     (tie.spec
     (λ c. search rules)
@@ -29,4 +29,4 @@ onward-spec =
     (λ c κs. search rules)
     (λ c κs. omega (arith, few c))
     (λ c κs. search rules)
-    (λ c. c.corner-or-zero.ensures ∙ ap (λ s. get_or (start c.before.before).args.corners.now s 0) (c.before.next_of.ensures ∙ ap next (side_is c.before.before))))
+    (λ c. c.corner_or_zero.ensures ∙ ap (λ s. get_or (start c.before.before).args.corners.now s 0) (c.next_of-e.ensures ∙ ap next (side_is c.before.before))))

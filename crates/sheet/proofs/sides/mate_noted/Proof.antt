@@ -8,23 +8,21 @@ use lib.ListN.{length, get_or}
 use Rattle.sheet.proofs.sides.mate_noted.Statement.{statement}
 use Rattle.sheet.proofs.sides.mate_noted.Tie as tie
 
-is-from-requires : tie.Need-is-from-requires
-is-from-requires c κs = λ l. omega (arith, c.wide.ensures, c.before.before.requires.0 (omega (arith, c.wide.ensures, l)))
+is-from-requires : tie.Need-is_from-back-requires
+is-from-requires c κs = λ l. omega (arith, c.wide.ensures, c.requires.0 (omega (arith, c.wide.ensures, l)))
 
-returns : tie.Need-returns
+returns : tie.Need-returns-then-back
 returns c =
-    let s = c.before.before.before.before in
-    ap (λ b. cond b s.args.noted (length s.args.corners.now))
-    (sym c.if1.true ∙ c.before.is-from.ensures ∙ ap (λ v. ltb v 65535 && eqb (get_or s.args.corners.now v 0) s.args.p) c.before.before.wide.ensures)
+    ap (λ b. cond b c.args.noted (length c.args.corners.now))
+    (sym c.if-back.true ∙ c.is_from-back.ensures ∙ ap (λ v. ltb v 65535 && eqb (get_or c.args.corners.now v 0) c.args.p) c.wide.ensures)
 
-returns-2 : tie.Need-returns-2
+returns-2 : tie.Need-returns
 returns-2 c =
-    let s = c.before.before.before.before in
-    ap (λ b. cond b s.args.noted (length s.args.corners.now))
-    (sym c.if1.false ∙ c.before.is-from.ensures ∙ ap (λ v. ltb v 65535 && eqb (get_or s.args.corners.now v 0) s.args.p) c.before.before.wide.ensures)
+    ap (λ b. cond b c.args.noted (length c.args.corners.now))
+    (sym c.if-back.false ∙ c.is_from-back.ensures ∙ ap (λ v. ltb v 65535 && eqb (get_or c.args.corners.now v 0) c.args.p) c.wide.ensures)
 
-pub mate-noted-spec : {M : Type 1} → statement M
-mate-noted-spec =
+pub mate_noted_spec : {M : Type 1} → statement M
+mate_noted_spec =
     tie.close
     (tie.spec
     (λ c κs. search rules)

@@ -9,10 +9,10 @@ when : {A B C D : Type 0} (b : Bool) → (b ≡ true → A × B × D) × (b ≡ 
 when true h x = (h.0 refl).1
 when false h x = absurd (h.1 refl x)
 
-pub mates-spec : {M : Type 1} → statement M
-mates-spec =
+pub mates_spec : {M : Type 1} → statement M
+mates_spec =
     tie.close
     (tie.spec
     (λ c κs. search rules)
     (λ c κs. search rules)
-    (λ c. when c.pair-sides.result c.pair-sides.ensures c.before.before.before.before.before.before.before.before.requires.3))
+    (λ c. when c.pair_sides.result c.pair_sides.ensures c.requires.3))

@@ -13,58 +13,54 @@ use Rattle.sheet.proofs.Pairing.{Latest, Righting, latest_falls, rights_none, ri
 use Rattle.sheet.proofs.sides.note_mates.Statement.{statement}
 use Rattle.sheet.proofs.sides.note_mates.Tie as tie
 
-abbrev invariant-loop : tie.invariant-loop
+abbrev invariant-loop : tie.invariant-loop-s
 invariant-loop corners earlier noted mate₀ p begun s₀ mate s = Righting corners p mate₀ mate s
 
-abbrev decreases-loop : tie.decreases-loop
+abbrev decreases-loop : tie.decreases-loop-s
 decreases-loop corners earlier noted mate₀ p begun s₀ mate s = rank s
 
-tail_is : (c : tie.After-wide invariant-loop decreases-loop) → c.wide.result ≡ get_or c.before.before.before.before.before.before.args.corners.now (last c.before.before.before.before.loop.s) 0
-tail_is c = c.wide.ensures ∙ ap (λ k. get_or c.before.before.before.before.before.before.args.corners.now k 0) c.before.before.last_of.ensures
+tail_is : (c : tie.After-wide-q invariant-loop decreases-loop) → c.wide-q.result ≡ get_or c.args.corners.now (last c.loop-s.s) 0
+tail_is c = c.wide-q.ensures ∙ ap (λ k. get_or c.args.corners.now k 0) c.last_of-l.ensures
 
-low : (c : tie.After-wide invariant-loop decreases-loop) → c.wide.result < 1024
+low : (c : tie.After-wide-q invariant-loop decreases-loop) → c.wide-q.result < 1024
 low c =
-    let b = c.before.before.before.before.before.before in
-    let s = c.before.before.before.before.loop.s in
-    omega (arith, tail_is c, b.requires.0.2 (last s) (last_below (length b.args.corners.now) s b.requires.0.0 (c.before.before.before.before.loop.invariant.here c.before.before.before.loop-test.true)))
+    let s = c.loop-s.s in
+    omega (arith, tail_is c, c.requires.0.2 (last s) (last_below (length c.args.corners.now) s c.requires.0.0 (c.loop-s.invariant.here c.loop-s-test.true)))
 
-next_is : (c : tie.After-wide2 invariant-loop decreases-loop) → (let b = c.before.before.before.before.before.before.before.before.before.before in Latest b.args.corners.now b.args.p c.before.before.before.before.before.before.before.before.loop.s c.wide2.result)
+next_is : (c : tie.After-wide-s invariant-loop decreases-loop) → (Latest c.args.corners.now c.args.p c.loop-s.s c.wide-s.result)
 next_is c =
-    let b = c.before.before.before.before.before.before.before.before.before.before in
-    let l = c.before.before.before.before.before.before.before.loop-test.true in
-    next_right b.args.corners.now b.args.p b.args.mate.now b.requires.0.1 c.before.before.before.before.before.before.before.before.loop.invariant l (c.wide2.ensures ∙ b.requires.1.0 c.before.before.before.before.before.before.before.before.loop.s (c.before.before.before.before.before.before.before.before.loop.invariant.here l))
+    let l = c.loop-s-test.true in
+    next_right c.args.corners.now c.args.p c.args.mate.now c.requires.0.1 c.loop-s.invariant l (c.wide-s.ensures ∙ c.requires.1.0 c.loop-s.s (c.loop-s.invariant.here l))
 
-right : (c : tie.After-mate-noted invariant-loop decreases-loop) → c.mate-noted.result ≡ mate_of c.before.before.before.before.before.before.before.before.args.corners.now (last c.before.before.before.before.before.before.loop.s)
+right : (c : tie.After-mate_noted invariant-loop decreases-loop) → c.mate_noted.result ≡ mate_of c.args.corners.now (last c.loop-s.s)
 right c =
-    let b = c.before.before.before.before.before.before.before.before in
-    let i = c.before.before.before.before.before.before.loop.invariant in
-    let l = c.before.before.before.before.before.loop-test.true in
-    c.mate-noted.ensures
-    ∙ ap (λ q. cond (ltb (get_or b.args.noted.now q 0) 65535 && eqb (get_or b.args.corners.now (get_or b.args.noted.now q 0) 0) b.args.p) (get_or b.args.noted.now q 0) (length b.args.corners.now)) (tail_is c.before.before)
-    ∙ pair_right b.args.corners.now b.args.p b.args.noted.now b.requires.0.1 b.requires.0.2 b.requires.0.0 b.requires.1.1 b.requires.1.2 c.before.before.before.before.before.before.loop.s (i.here l) (i.from l)
+    let i = c.loop-s.invariant in
+    let l = c.loop-s-test.true in
+    c.mate_noted.ensures
+    ∙ ap (λ q. cond (ltb (get_or c.args.noted.now q 0) 65535 && eqb (get_or c.args.corners.now (get_or c.args.noted.now q 0) 0) c.args.p) (get_or c.args.noted.now q 0) (length c.args.corners.now)) (tail_is c.before.before.before)
+    ∙ pair_right c.args.corners.now c.args.p c.args.noted.now c.requires.0.1 c.requires.0.2 c.requires.0.0 c.requires.1.1 c.requires.1.2 c.loop-s.s (i.here l) (i.from l)
 
-loop-again : tie.Need-loop-preserved invariant-loop decreases-loop
+loop-again : tie.Need-loop-s-preserved invariant-loop decreases-loop
 loop-again c =
-    let b = c.before.before.before.before.before.before.before.before.before.before in
-    subst (λ k. Righting b.args.corners.now b.args.p b.args.mate.now (set c.before.before.before.before.before.before.before.before.loop.mate k c.before.before.mate-noted.result) c.wide2.result) (sym c.before.before.before.before.before.before.last_of.ensures) (rights_one b.args.corners.now b.args.p b.args.mate.now b.requires.0.1 c.before.before.before.before.before.before.before.before.loop.invariant c.before.before.before.before.before.before.before.loop-test.true c.before.before.mate-noted.result (right c.before.before) b.requires.0.0 (next_is c))
+    subst (λ k. Righting c.args.corners.now c.args.p c.args.mate.now (set c.loop-s.mate k c.mate_noted.result) c.wide-s.result) (sym c.last_of-l.ensures) (rights_one c.args.corners.now c.args.p c.args.mate.now c.requires.0.1 c.loop-s.invariant c.loop-s-test.true c.mate_noted.result (right c.before.before.before.before) c.requires.0.0 (next_is c))
 
-pub note-mates-spec : {M : Type 1} → statement M
-note-mates-spec =
+pub note_mates_spec : {M : Type 1} → statement M
+note_mates_spec =
     tie.close
     (tie.spec invariant-loop decreases-loop
-    (λ c. let b = c.before in rights_none b.args.corners.now b.args.p b.args.mate.now b.requires.0.1 _ b.requires.1.3 b.requires.0.3)
-    (λ c κs. omega (arith, c.loop-test.true))
-    (λ c. omega (arith, c.last_of.ensures, c.before.loop-test.true))
-    (λ c. let b = c.before.before.before.before.before in omega (arith, c.before.last_of.ensures, last_below (length b.args.corners.now) c.before.before.before.loop.s b.requires.0.0 (c.before.before.before.loop.invariant.here c.before.before.loop-test.true)))
+    (λ c. rights_none c.args.corners.now c.args.p c.args.mate.now c.requires.0.1 _ c.requires.1.3 c.requires.0.3)
+    (λ c κs. omega (arith, c.loop-s-test.true))
+    (λ c. omega (arith, c.last_of-l.ensures, c.loop-s-test.true))
+    (λ c. omega (arith, c.last_of-l.ensures, last_below (length c.args.corners.now) c.loop-s.s c.requires.0.0 (c.loop-s.invariant.here c.loop-s-test.true)))
     (λ c κs. search rules)
     (λ c. omega (arith, low c))
-    (λ c. low c)
-    (λ c κs. let b = c.before.before.before.before.before.before.before in (b.requires.1.1.there c.before.wide.result (low c.before), b.requires.0.1))
-    (λ c. omega (arith, c.before.before.before.before.before.loop-test.true))
-    (λ c. let b = c.before.before.before.before.before.before.before.before in omega (arith, b.requires.0.1, last_below (length b.args.corners.now) c.before.before.before.before.before.before.loop.s b.requires.0.0 (c.before.before.before.before.before.before.loop.invariant.here c.before.before.before.before.before.loop-test.true)))
-    (λ c. omega (arith, c.before.before.before.before.before.loop-test.true))
-    (λ c. omega (arith, c.before.before.before.before.before.before.before.before.requires.0.1, c.before.before.before.before.before.before.loop.invariant.here c.before.before.before.before.before.loop-test.true))
+    (λ c. low c.before)
+    (λ c κs. (c.requires.1.1.there c.wide-q.result (low c.before.before), c.requires.0.1))
+    (λ c. omega (arith, c.loop-s-test.true))
+    (λ c. omega (arith, c.requires.0.1, last_below (length c.args.corners.now) c.loop-s.s c.requires.0.0 (c.loop-s.invariant.here c.loop-s-test.true)))
+    (λ c. omega (arith, c.loop-s-test.true))
+    (λ c. omega (arith, c.requires.0.1, c.loop-s.invariant.here c.loop-s-test.true))
     (λ c κs. search rules)
-    (λ c. latest_falls (next_is c) c.before.before.before.before.before.before.before.loop-test.true)
+    (λ c. latest_falls (next_is c) c.loop-s-test.true)
     loop-again
-    (λ c. let b = c.before.before.before in rights_all b.args.corners.now b.args.p b.args.mate.now b.requires.0.1 c.before.loop.invariant c.loop-test.false))
+    (λ c. rights_all c.args.corners.now c.args.p c.args.mate.now c.requires.0.1 c.loop-s.invariant c.loop-s-test.false))

@@ -11,38 +11,37 @@ use Rattle.sheet.proofs.Pairing.{Paired, pairs_none, pairs_one, pairs_all}
 use Rattle.sheet.proofs.sides.pair_sides.Statement.{statement}
 use Rattle.sheet.proofs.sides.pair_sides.Tie as tie
 
-abbrev invariant-loop : tie.invariant-loop
+abbrev invariant-loop : tie.invariant-loop-p
 invariant-loop corners earlier latest mate₀ noted₀ p₀ mate noted p = Paired corners mate₀ noted mate p
 
-abbrev decreases-loop : tie.decreases-loop
+abbrev decreases-loop : tie.decreases-loop-p
 decreases-loop corners earlier latest mate₀ noted₀ p₀ mate noted p = 1024 - p
 
-begun_is : (c : tie.After-wide invariant-loop decreases-loop) → (let s = c.before.before.before.before.before in c.wide.result ≡ final 65535 (starts s.args.corners.now c.before.before.before.loop.p) (length s.args.corners.now))
-begun_is c = let s = c.before.before.before.before.before in c.wide.ensures ∙ s.requires.3.latest_is c.before.before.before.loop.p c.before.before.loop-test.true
+begun_is : (c : tie.After-wide-begun invariant-loop decreases-loop) → (c.wide-begun.result ≡ final 65535 (starts c.args.corners.now c.loop-p.p) (length c.args.corners.now))
+begun_is c = c.wide-begun.ensures ∙ c.requires.3.latest_is c.loop-p.p c.loop-p-test.true
 
-note-ends-requires : tie.Need-note-ends-requires invariant-loop decreases-loop
-note-ends-requires c κs = let s = c.before.before.before.before.before.before in ((s.requires.0, s.requires.1, s.requires.2, begun_is c.before), (s.requires.3.earlier_is, c.before.before.before.before.loop.invariant.so_far))
+note-ends-requires : tie.Need-note_ends-apart-requires invariant-loop decreases-loop
+note-ends-requires c κs = ((c.requires.0, c.requires.1, c.requires.2, begun_is c.before), (c.requires.3.earlier_is, c.loop-p.invariant.so_far))
 
-note-mates-requires : tie.Need-note-mates-requires invariant-loop decreases-loop
+note-mates-requires : tie.Need-note_mates-requires invariant-loop decreases-loop
 note-mates-requires c κs =
-    let s = c.before.before.before.before.before.before.before.before.before.before in
-    let n = c.before.before.before.note-ends.ensures.0 (kept_iff.0 c.before.before.if1.false) in
-    ((s.requires.0, s.requires.1, s.requires.2, begun_is c.before.before.before.before.before), (s.requires.3.earlier_is, n.0, n.1, c.before.before.before.before.before.before.before.before.loop.invariant.long))
+    let n = c.note_ends-apart.ensures.0 (kept_iff.0 c.if-not-apart.false) in
+    ((c.requires.0, c.requires.1, c.requires.2, begun_is c.before.before.before.before.before), (c.requires.3.earlier_is, n.0, n.1, c.loop-p.invariant.long))
 
-returns : tie.Need-returns invariant-loop decreases-loop
-returns c = ((λ e. absurd (true≢false (sym e))), (λ e. c.before.note-ends.ensures.1 (false_iff.1 (not_iff.0 c.if1.true))))
+returns : tie.Need-returns-then-not-apart invariant-loop decreases-loop
+returns c = ((λ e. absurd (true≢false (sym e))), (λ e. c.note_ends-apart.ensures.1 (false_iff.1 (not_iff.0 c.if-not-apart.true))))
 
-loop-again : tie.Need-loop-preserved invariant-loop decreases-loop
-loop-again c = pairs_one c.before.before.before.before.before.before.before.before.before.before.before.args.corners.now c.before.before.before.before.before.before.before.before.before.loop.invariant (c.before.before.before.before.note-ends.ensures.0 (kept_iff.0 c.before.before.before.if1.false)) c.note-mates.ensures
+loop-again : tie.Need-loop-p-preserved invariant-loop decreases-loop
+loop-again c = pairs_one c.args.corners.now c.loop-p.invariant (c.note_ends-apart.ensures.0 (kept_iff.0 c.if-not-apart.false)) c.note_mates.ensures
 
-returns-2 : tie.Need-returns-2 invariant-loop decreases-loop
-returns-2 c = let s = c.before.before.before in ((λ e. pairs_all s.args.corners.now c.before.loop.invariant c.loop-test.false s.requires.2 s.requires.0 s.requires.1), (λ e. absurd (true≢false e)))
+returns-2 : tie.Need-returns invariant-loop decreases-loop
+returns-2 c = ((λ e. pairs_all c.args.corners.now c.loop-p.invariant c.loop-p-test.false c.requires.2 c.requires.0 c.requires.1), (λ e. absurd (true≢false e)))
 
-pub pair-sides-spec : {M : Type 1} → statement M
-pair-sides-spec =
+pub pair_sides_spec : {M : Type 1} → statement M
+pair_sides_spec =
     tie.close
     (tie.spec invariant-loop decreases-loop
-    (λ c. pairs_none c.before.args.corners.now _ c.before.requires.4)
+    (λ c. pairs_none c.args.corners.now _ c.requires.4)
     (λ c. search rules)
     (λ c. search rules)
     (λ c κs. search rules)

@@ -6,14 +6,14 @@ use Rattle.sheet.specs.Office.{bare, double}
 use Rattle.sheet.proofs.triangles.first_double.Statement.{statement}
 use Rattle.sheet.proofs.triangles.first_double.Tie as tie
 
-abbrev invariant-loop : tie.invariant-loop
+abbrev invariant-loop : tie.invariant-loop-t
 invariant-loop corners earlier n t₀ t = Sought (double (bare corners)) (length corners / 3) t
 
-abbrev decreases-loop : tie.decreases-loop
+abbrev decreases-loop : tie.decreases-loop-t
 decreases-loop corners earlier n t₀ t = length corners / 3 - t
 
-pub first-double-spec : {M : Type 1} → statement M
-first-double-spec =
+pub first_double_spec : {M : Type 1} → statement M
+first_double_spec =
     tie.close
     (tie.spec invariant-loop decreases-loop
     (λ c. search seeking)

@@ -6,14 +6,14 @@ use Rattle.sheet.specs.Office.{office, no_point}
 use Rattle.sheet.proofs.triangles.first_no_point.Statement.{statement}
 use Rattle.sheet.proofs.triangles.first_no_point.Tie as tie
 
-abbrev invariant-loop : tie.invariant-loop
+abbrev invariant-loop : tie.invariant-loop-s
 invariant-loop xs corners s₀ s = Sought (no_point (office xs xs corners)) (length corners) s
 
-abbrev decreases-loop : tie.decreases-loop
+abbrev decreases-loop : tie.decreases-loop-s
 decreases-loop xs corners s₀ s = length corners - s
 
-pub first-no-point-spec : {M : Type 1} → statement M
-first-no-point-spec =
+pub first_no_point_spec : {M : Type 1} → statement M
+first_no_point_spec =
     tie.close
     (tie.spec invariant-loop decreases-loop
     (λ c. search seeking)

@@ -9,8 +9,8 @@ use Rattle.sheet.proofs.AtPoint.{turn_at}
 use Rattle.sheet.proofs.triangles.is_flat.Statement.{statement}
 use Rattle.sheet.proofs.triangles.is_flat.Tie as tie
 
-pub is-flat-spec : {M : Type 1} → statement M
-is-flat-spec =
+pub is_flat_spec : {M : Type 1} → statement M
+is_flat_spec =
     tie.close
     (tie.spec
     (λ c. search rules)
@@ -20,4 +20,4 @@ is-flat-spec =
     (λ c. search rules)
     (λ c κs. search rules)
     (λ c κs. search rules)
-    (λ c. ap (λ z. not (lt_z (pos 0) z)) (to_z-of_z (search rules) ∙ c.turn.ensures ∙ turn_at c.before.before.before.corner_at.ensures c.before.before.corner-at2.ensures c.before.corner-at3.ensures)))
+    (λ c. ap (λ z. not (lt_z (pos 0) z)) (to_z-of_z (search rules) ∙ c.turn-twice.ensures ∙ turn_at c.corner_at-a.ensures c.corner_at-b.ensures c.corner_at-c.ensures)))

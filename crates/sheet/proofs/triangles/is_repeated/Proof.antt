@@ -10,22 +10,20 @@ use Rattle.sheet.proofs.Chain.{latest_there, repeated_is}
 use Rattle.sheet.proofs.triangles.is_repeated.Statement.{statement}
 use Rattle.sheet.proofs.triangles.is_repeated.Tie as tie
 
-begun_is : (c : tie.After-wide) → (let b = c.before.before.before in c.wide.result ≡ final 65535 (starts b.args.corners.now (get_or b.args.corners.now b.args.s 0)) b.args.s)
-begun_is c = let b = c.before.before.before in c.wide.ensures ∙ b.requires.1 b.args.s b.requires.0.2
+begun_is : (c : tie.After-wide-begun) → (c.wide-begun.result ≡ final 65535 (starts c.args.corners.now (get_or c.args.corners.now c.args.s 0)) c.args.s)
+begun_is c = c.wide-begun.ensures ∙ c.requires.1 c.args.s c.requires.0.2
 
-requires : tie.Need-run-back-requires
+requires : tie.Need-run_back-requires
 requires c κs =
-    let b = c.before.before.before.before in
-    let there = latest_there b.args.corners.now (get_or b.args.corners.now b.args.s 0) b.args.s c.before.wide.result (begun_is c.before) (omega (arith, b.requires.0)) in
-    ((b.requires.0.0, b.requires.0.1, λ l. omega (arith, there l, b.requires.0.2)), b.requires.1)
+    let there = latest_there c.args.corners.now (get_or c.args.corners.now c.args.s 0) c.args.s c.wide-begun.result (begun_is c.before) (omega (arith, c.requires.0)) in
+    ((c.requires.0.0, c.requires.0.1, λ l. omega (arith, there l, c.requires.0.2)), c.requires.1)
 
 returns : tie.Need-returns
 returns c =
-    let b = c.before.before.before.before.before in
-    ap (λ r. ltb r 65535) c.run-back.ensures ∙ repeated_is b.args.corners.now b.args.s c.before.before.wide.result b.requires.0.2 b.requires.0.1 (begun_is c.before.before)
+    ap (λ r. ltb r 65535) c.run_back.ensures ∙ repeated_is c.args.corners.now c.args.s c.wide-begun.result c.requires.0.2 c.requires.0.1 (begun_is c.before.before)
 
-pub is-repeated-spec : {M : Type 1} → statement M
-is-repeated-spec =
+pub is_repeated_spec : {M : Type 1} → statement M
+is_repeated_spec =
     tie.close
     (tie.spec
     (λ c. search rules)

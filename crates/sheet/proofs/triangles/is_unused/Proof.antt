@@ -4,10 +4,10 @@ use Rattle.sheet.proofs.Chain.{unused_is}
 use Rattle.sheet.proofs.triangles.is_unused.Statement.{statement}
 use Rattle.sheet.proofs.triangles.is_unused.Tie as tie
 
-pub is-unused-spec : {M : Type 1} → statement M
-is-unused-spec =
+pub is_unused_spec : {M : Type 1} → statement M
+is_unused_spec =
     tie.close
     (tie.spec
     (λ c. search rules)
     (λ c. search rules)
-    (λ c. let b = c.before in unused_is b.args.corners.now b.args.p _ b.requires.0.0 (b.requires.1 b.args.p b.requires.0.1)))
+    (λ c. unused_is c.args.corners.now c.args.p _ c.requires.0.0 (c.requires.1 c.args.p c.requires.0.1)))
