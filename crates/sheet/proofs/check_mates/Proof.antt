@@ -10,10 +10,10 @@ use Rattle.sheet.proofs.check_mates.Tie as tie
 returns : tie.Need-returns-in-Accepted
 returns c =
     let made = c.check_sizes.new.mate in
-    (sym (ap answer c.hull-1.given.1) ∙ c.check_sizes.ensures.0, hands c.args.corners.now made c.hull-1.given.0.0 (subst (λ r. Ready (answer r) c.args.corners.now (replicate 6129 0) made) c.hull-1.given.1 c.check_sizes.ensures.1))
+    (sym (ap answer c.in-Accepted.is) ∙ c.check_sizes.ensures.0, hands c.args.corners.now made c.in-Accepted.hull (subst (λ r. Ready (answer r) c.args.corners.now (replicate 6129 0) made) c.in-Accepted.is c.check_sizes.ensures.1))
 
 returns-2 : tie.Need-returns-in-Refused
-returns-2 c = (sym (ap answer c.refusal-1.given.1) ∙ c.check_sizes.ensures.0, refl)
+returns-2 c = (sym (ap answer c.in-Refused.is) ∙ c.check_sizes.ensures.0, refl)
 
 pub check_mates_spec : {M : Type 1} → statement M
 check_mates_spec =

@@ -28,7 +28,7 @@ at_once c =
     ∙ sym (neat_accepted (office c.args.xs.now c.args.ys.now c.args.corners.now) c.requires.0 c.requires.1 c.requires.2 c.requires.3 (sym c.is_one_ring-one.ensures ∙ one) (record { clear = c.first_bad-bad.ensures.1 (leb_iff.0 n); smooth = c.is_convex-convex.ensures convex }))
 
 accepts : tie.Need-returns
-accepts c = at_none _ _ _ _ _ _ c.first_invaded-invaded.ensures c.if-invaded-corners.false (when_sound _ (ap not (sym c.is_one_ring-one.ensures) ∙ c.if-not-one.false) (at_none _ _ _ _ _ _ c.first_outer-outer.ensures c.if-outer-xs.false (ap accepted c.rim_length-rim.ensures)))
+accepts c = at_none _ _ _ _ _ _ c.first_invaded-invaded.ensures c.if-invaded-corners.false (when_sound _ (ap not (sym c.is_one_ring-one.ensures ∙ c.if-not-one.false)) (at_none _ _ _ _ _ _ c.first_outer-outer.ensures c.if-outer-xs.false (ap accepted c.rim_length-rim.ensures)))
 
 pub check_rim_spec : {M : Type 1} → statement M
 check_rim_spec =
@@ -44,8 +44,8 @@ check_rim_spec =
     (λ c κs. search rules)
     (λ c. at_hit _ _ _ _ _ _ c.first_invaded-invaded.ensures c.if-invaded-corners.true c.refused.ensures)
     (λ c κs. search rules)
-    (λ c. at_none _ _ _ _ _ _ c.first_invaded-invaded.ensures c.if-invaded-corners.false (when_broken _ (ap not (sym c.is_one_ring-one.ensures) ∙ c.if-not-one.true) c.refused-then-not-one.ensures))
+    (λ c. at_none _ _ _ _ _ _ c.first_invaded-invaded.ensures c.if-invaded-corners.false (when_broken _ (ap not (sym c.is_one_ring-one.ensures ∙ c.if-not-one.true)) c.refused-then-not-one.ensures))
     (λ c κs. search rules)
     (λ c κs. search rules)
-    (λ c. at_none _ _ _ _ _ _ c.first_invaded-invaded.ensures c.if-invaded-corners.false (when_sound _ (ap not (sym c.is_one_ring-one.ensures) ∙ c.if-not-one.false) (at_hit _ _ _ _ _ _ c.first_outer-outer.ensures c.if-outer-xs.true c.refused-then-outer-xs.ensures)))
+    (λ c. at_none _ _ _ _ _ _ c.first_invaded-invaded.ensures c.if-invaded-corners.false (when_sound _ (ap not (sym c.is_one_ring-one.ensures ∙ c.if-not-one.false)) (at_hit _ _ _ _ _ _ c.first_outer-outer.ensures c.if-outer-xs.true c.refused-then-outer-xs.ensures)))
     accepts)

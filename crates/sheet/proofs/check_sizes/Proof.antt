@@ -33,12 +33,12 @@ returns-3 c = (when_sound _ (ap not (eq-eqb _ _ c.if-xs-ys.false)) (when_sound _
 
 returns-4 : tie.Need-returns-then-not-room
 unfolding verdict
-returns-4 c = (when_sound _ (ap not (eq-eqb _ _ c.if-xs-ys.false)) (when_sound _ c.if-xs.false (when_sound _ c.if-corners.false (when_broken _ c.if-not-room.true c.refused-then-not-room.ensures))), no_table _ _ _ c.refused-then-not-room.ensures)
+returns-4 c = (when_sound _ (ap not (eq-eqb _ _ c.if-xs-ys.false)) (when_sound _ c.if-xs.false (when_sound _ c.if-corners.false (when_broken _ (ap not c.if-not-room.true) c.refused-then-not-room.ensures))), no_table _ _ _ c.refused-then-not-room.ensures)
 
 returns-5 : tie.Need-returns
 unfolding verdict
 returns-5 c =
-    (when_sound _ (ap not (eq-eqb _ _ c.if-xs-ys.false)) (when_sound _ c.if-xs.false (when_sound _ c.if-corners.false (when_sound _ c.if-not-room.false c.check_points.ensures.0))), c.check_points.ensures.1)
+    (when_sound _ (ap not (eq-eqb _ _ c.if-xs-ys.false)) (when_sound _ c.if-xs.false (when_sound _ c.if-corners.false (when_sound _ (ap not c.if-not-room.false) c.check_points.ensures.0))), c.check_points.ensures.1)
 
 pub check_sizes_spec : {M : Type 1} → statement M
 check_sizes_spec =

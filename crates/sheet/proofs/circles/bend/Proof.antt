@@ -5,6 +5,7 @@ use lib.IntN.{nat_abs}
 use borrow.Author.Rules.{rules}
 use mir.Syntax.{w32, w64}
 use mir.Val.{to_z, of_z}
+use mir.Syntax.{w32}
 use mir.Facts.{to_z-of_z}
 use Rattle.laws.proofs.Exact.{Num, got}
 use Rattle.sheet.specs.Plane.{spot, turn}
@@ -15,7 +16,7 @@ use Rattle.sheet.proofs.circles.bend.Tie as tie
 module _ (c : tie.After-turn) where
   -- the turn, in 32 bits and in 64
   turned : to_z w32 (of_z w32 c.turn.result) ≡ turn (spot c.args.ax c.args.ay) (spot c.args.bx c.args.by) (spot c.args.cx c.args.cy)
-  turned = to_z-of_z (search rules) ∙ c.turn.ensures
+  turned = to_z-of_z {w = w32} (search rules) ∙ c.turn.ensures
 
   abbrev all : Num w64
   all = got 536805378 _ _ turned (turn_bound _ _ _ c.requires.0 c.requires.1 c.requires.2) tt

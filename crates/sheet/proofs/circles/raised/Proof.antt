@@ -10,7 +10,7 @@ use Rattle.sheet.proofs.circles.raised.Statement.{statement}
 use Rattle.sheet.proofs.circles.raised.Tie as tie
 
 abbrev all : tie.After-height_of → Num w64
-all c = nat 536805378 c.height-of.result c.height-of.ensures.1 tt
+all c = nat 536805378 c.height_of.result c.height_of.ensures.1 tt
 
 pub raised_spec : {M : Type 1} → statement M
 raised_spec =

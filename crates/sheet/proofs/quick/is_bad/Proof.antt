@@ -18,16 +18,16 @@ abbrev of : tie.Start → Office
 of s = office s.args.xs.now s.args.ys.now s.args.corners.now
 
 area_is : (c : tie.After-turn-area) → to_z w32 (of_z w32 c.turn-area.result) ≡ turn (spot c.corner_at-a.result.x c.corner_at-a.result.y) (spot c.corner_at-b.result.x c.corner_at-b.result.y) (spot c.corner_at-c.result.x c.corner_at-c.result.y)
-area_is c = to_z-of_z (search rules) ∙ c.turn-area.ensures
+area_is c = to_z-of_z {w = w32} (search rules) ∙ c.turn-area.ensures
 
 is-held-requires : tie.Need-is_held-requires
-is-held-requires c κs = ((c.requires.0, c.requires.1, omega (arith, c.requires.2)), first_cornering (of c) c.args.t c.corner_at-a.ensures c.corner_at-b.ensures c.corner_at-c.ensures (area_is c))
+is-held-requires c κs = ((c.requires.0, c.requires.1, omega (arith, c.requires.2)), first_cornering (of c.before.before.before.before.before.before.before) c.args.t c.corner_at-a.ensures c.corner_at-b.ensures c.corner_at-c.ensures (area_is c))
 
 is-held-requires-2 : tie.Need-is_held-requires-2
-is-held-requires-2 c κs = ((c.requires.0, c.requires.1, omega (arith, c.requires.2)), second_cornering (of c) c.args.t c.corner_at-a.ensures c.corner_at-b.ensures c.corner_at-c.ensures (area_is c.before))
+is-held-requires-2 c κs = ((c.requires.0, c.requires.1, omega (arith, c.requires.2)), second_cornering (of c.before.before.before.before.before.before.before.before) c.args.t c.corner_at-a.ensures c.corner_at-b.ensures c.corner_at-c.ensures (area_is c.before))
 
 is-held-requires-3 : tie.Need-is_held-requires-3
-is-held-requires-3 c κs = ((c.requires.0, c.requires.1, omega (arith, c.requires.2)), third_cornering (of c) c.args.t c.corner_at-a.ensures c.corner_at-b.ensures c.corner_at-c.ensures (area_is c.before.before))
+is-held-requires-3 c κs = ((c.requires.0, c.requires.1, omega (arith, c.requires.2)), third_cornering (of c.before.before.before.before.before.before.before.before.before) c.args.t c.corner_at-a.ensures c.corner_at-b.ensures c.corner_at-c.ensures (area_is c.before.before))
 
 -- one of the three says so
 pick : {A : Type 0} (x y z : Bool) → (x ≡ true → A) → (y ≡ true → A) → (z ≡ true → A) → ((x || y) || z) ≡ true → A

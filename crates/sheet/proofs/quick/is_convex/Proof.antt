@@ -27,4 +27,4 @@ is_convex_spec =
     (λ c. search rules)
     (λ c. search rules)
     (λ c. passed_one c.loop-p.invariant c.loop-p-test.true (c.is_odd.ensures c.if-is_odd.false))
-    (λ c e. (c.before.before.lowest-point.result, passed_all c.before.loop.invariant c.loop-test.false)))
+    (λ c e. (c.lowest_point-lowest.result, passed_all c.loop-p.invariant c.loop-p-test.false)))

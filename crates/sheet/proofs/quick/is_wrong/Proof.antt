@@ -10,7 +10,7 @@ use Rattle.sheet.proofs.quick.is_wrong.Tie as tie
 
 returns : tie.Need-returns
 returns c =
-    let t : to_z w32 (of_z w32 c.turn.result) ≡ turn (spot c.args.ax c.args.ay) (spot c.args.bx c.args.by) (spot c.args.cx c.args.cy) = to_z-of_z (search rules) ∙ c.turn.ensures in
+    let t : to_z w32 (of_z w32 c.turn.result) ≡ turn (spot c.args.ax c.args.ay) (spot c.args.bx c.args.by) (spot c.args.cx c.args.cy) = to_z-of_z {w = w32} (search rules) ∙ c.turn.ensures in
     let i = c.key-a.ensures in
     let j = c.key-b.ensures in
     let k = c.key-c.ensures in

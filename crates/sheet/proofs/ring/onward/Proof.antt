@@ -12,13 +12,13 @@ use Rattle.sheet.proofs.ring.onward.Statement.{statement}
 use Rattle.sheet.proofs.ring.onward.Tie as tie
 
 abbrev start : tie.After-wide-s → tie.Start
-start c = c.before.before.before
+start c = c.before.before.before.before
 
-side_is : (c : tie.After-wide-s) → (let b = start c in c.wide-s.result ≡ first (leaves b.args.corners.now b.args.p) (length b.args.corners.now))
-side_is c = let b = start c in c.wide-s.ensures ∙ b.pre.2 b.args.p b.pre.1
+side_is : (c : tie.After-wide-s) → (c.wide-s.result ≡ first (leaves c.args.corners.now c.args.p) (length c.args.corners.now))
+side_is c = c.wide-s.ensures ∙ c.requires.2 c.args.p c.requires.1
 
 few : (c : tie.After-wide-s) → c.wide-s.result ≤ 6129
-few c = let b = start c in omega (arith, side_is c, (first_is (leaves b.args.corners.now b.args.p) (length b.args.corners.now)).within, b.pre.0)
+few c = omega (arith, side_is c, (first_is (leaves c.args.corners.now c.args.p) (length c.args.corners.now)).within, c.requires.0)
 
 pub onward_spec : {M : Type 1} → statement M
 onward_spec =
@@ -29,4 +29,4 @@ onward_spec =
     (λ c κs. search rules)
     (λ c κs. omega (arith, few c))
     (λ c κs. search rules)
-    (λ c. c.corner_or_zero.ensures ∙ ap (λ s. get_or (start c.before.before).args.corners.now s 0) (c.next_of-e.ensures ∙ ap next (side_is c.before.before))))
+    (λ c. c.corner_or_zero.ensures ∙ ap (λ s. get_or c.args.corners.now s 0) (c.next_of-e.ensures ∙ ap next (side_is c.before.before))))

@@ -25,14 +25,14 @@ note-ends-requires c κs = ((c.requires.0, c.requires.1, c.requires.2, begun_is 
 
 note-mates-requires : tie.Need-note_mates-requires invariant-loop decreases-loop
 note-mates-requires c κs =
-    let n = c.note_ends-apart.ensures.0 (kept_iff.0 c.if-not-apart.false) in
+    let n = c.note_ends-apart.ensures.0 (c.if-not-apart.false) in
     ((c.requires.0, c.requires.1, c.requires.2, begun_is c.before.before.before.before.before), (c.requires.3.earlier_is, n.0, n.1, c.loop-p.invariant.long))
 
 returns : tie.Need-returns-then-not-apart invariant-loop decreases-loop
-returns c = ((λ e. absurd (true≢false (sym e))), (λ e. c.note_ends-apart.ensures.1 (false_iff.1 (not_iff.0 c.if-not-apart.true))))
+returns c = ((λ e. absurd (true≢false (sym e))), (λ e. c.note_ends-apart.ensures.1 (c.if-not-apart.true)))
 
 loop-again : tie.Need-loop-p-preserved invariant-loop decreases-loop
-loop-again c = pairs_one c.args.corners.now c.loop-p.invariant (c.note_ends-apart.ensures.0 (kept_iff.0 c.if-not-apart.false)) c.note_mates.ensures
+loop-again c = pairs_one c.args.corners.now c.loop-p.invariant (c.note_ends-apart.ensures.0 (c.if-not-apart.false)) c.note_mates.ensures
 
 returns-2 : tie.Need-returns invariant-loop decreases-loop
 returns-2 c = ((λ e. pairs_all c.args.corners.now c.loop-p.invariant c.loop-p-test.false c.requires.2 c.requires.0 c.requires.1), (λ e. absurd (true≢false e)))

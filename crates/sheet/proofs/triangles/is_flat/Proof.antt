@@ -3,6 +3,7 @@ use mathlib.Core.Path.{ap, ◌∙◌}
 use mathlib.Core.Bool.{not}
 use lib.IntN.{pos}
 use lib.Signed.{lt_z}
+use mir.Syntax.{w32}
 use mir.Facts.{to_z-of_z}
 use borrow.Author.Rules.{rules}
 use Rattle.sheet.proofs.AtPoint.{turn_at}
@@ -20,4 +21,4 @@ is_flat_spec =
     (λ c. search rules)
     (λ c κs. search rules)
     (λ c κs. search rules)
-    (λ c. ap (λ z. not (lt_z (pos 0) z)) (to_z-of_z (search rules) ∙ c.turn-twice.ensures ∙ turn_at c.corner_at-a.ensures c.corner_at-b.ensures c.corner_at-c.ensures)))
+    (λ c. ap (λ z. not (lt_z (pos 0) z)) (to_z-of_z {w = w32} (search rules) ∙ c.turn-twice.ensures ∙ turn_at c.corner_at-a.ensures c.corner_at-b.ensures c.corner_at-c.ensures)))
