@@ -7,11 +7,11 @@ use Rattle.listing.proofs.Printing.{put_fields, print_none, print_fields}
 use Rattle.listing.proofs.print_refusal.Statement.{statement}
 use Rattle.listing.proofs.print_refusal.Tie as tie
 
-pub print-refusal-spec : {M : Type 1} → statement M
-print-refusal-spec =
+pub print_refusal_spec : {M : Type 1} → statement M
+print_refusal_spec =
     tie.close
     (tie.spec
-    (λ c. let a = c.before.before.args in print_none 3 (refusal_line a.refusal.number a.refusal.place) a.out.now (let h = c.if1.true in omega arith))
+    (λ c. let a = c.args in print_none 3 (refusal_line a.refusal.number a.refusal.place) a.out.now (let h = c.if-out-lt63.true in omega arith))
     (λ c. search rules)
     (λ c κs. search rules)
     (λ c. search rules)

@@ -18,28 +18,28 @@ within f n e w = rw e at w
 says : (f : Numbers) (n : ℕ) (all : List ℕ) (r : Option (List ℕ)) → f ≡ Count n → told f all ≡ r → some (lib.ListN.take n all) ≡ r
 says f n all r e t = sym (ap (λ (g : Numbers). told g all) e) ∙ t
 
-pub counts-of-spec : {M : Type 1} → statement M
-counts-of-spec =
+pub counts_of_spec : {M : Type 1} → statement M
+counts_of_spec =
     tie.close
     (tie.spec
     (λ c κs. search rules)
-    (λ c. record { is = rw c.refused.ensures (too_long _ c.before.if1.true, refl, refl) })
+    (λ c. record { is = rw c.refused.ensures (too_long _ c.if-text-gt65536.true, refl, refl) })
     (λ c κs. search rules)
     (λ c. search rules)
     (λ c. search rules)
     (λ c κs. search rules)
     (λ c. search rules)
     (λ c.
-    let s = c.before.before.before.before.before.scan in
-    record { is = rw c.refused2.ensures (no_numbers _ c.before.before.before.before.before.before.before.if1.false (sym (ap (λ (f : Numbers). told f s.new.1.0) c.before.enum_told.given.1) ∙ s.ensures.0), refl, refl) })
+    let s = c.scan-found in
+    record { is = rw c.refused-in_default.ensures (no_numbers _ c.if-text-gt65536.false (sym (ap (λ (f : Numbers). told f s.new.all) c.enum_told-1.given.1) ∙ s.ensures.0), refl, refl) })
     (λ c κs. search rules)
     (λ c. search rules)
     (λ c.
-    let s = c.before.before.before.before.before.before.before.scan in
-    let f = c.before.before.before.found.given in
+    let s = c.scan-found in
+    let f = c.found-1.given in
     let w = within _ _ f.1 s.ensures.1 in
     let k = s.auto.1.0 in
-    record { is = rw c.refused3.ensures (too_few _ c.before.before.before.before.before.before.before.before.before.if1.false s.new.1.0 _ (says _ _ _ _ f.1 s.ensures.0) (omega arith) c.before.if2.true, refl, refl) })
+    record { is = rw c.refused-then-count-lt2.ensures (too_few _ c.if-text-gt65536.false s.new.all _ (says _ _ _ _ f.1 s.ensures.0) (omega arith) c.if-count-lt2.true, refl, refl) })
     (λ c. search rules)
     (λ c κs. search rules)
     (λ c. search rules)
@@ -51,25 +51,25 @@ counts-of-spec =
     (λ c κs. search rules)
     (λ c. search rules)
     (λ c.
-    let s = c.before.before.before.before.before.before.before.before.before.before.before.before.scan in
-    let f = c.before.before.before.before.before.before.before.before.found.given in
+    let s = c.scan-found in
+    let f = c.found-1.given in
     let w = within _ _ f.1 s.ensures.1 in
     let k = s.auto.1.0 in
-    let n = c.before.before.before.before.wide.ensures.0 in
-    let t = c.before.before.wide2.ensures.0 in
-    record { is = rw c.refused4.ensures (wrong_count _ c.before.before.before.before.before.before.before.before.before.before.before.before.before.before.if1.false s.new.1.0 _ (says _ _ _ _ f.1 s.ensures.0) (omega arith) c.before.before.before.before.before.before.if2.false (λ e. c.before.if3.true (omega arith)), refl, refl) })
+    let n = c.wide-points.ensures.0 in
+    let t = c.wide-triangles.ensures.0 in
+    record { is = rw c.refused-then-count-points.ensures (wrong_count _ c.if-text-gt65536.false s.new.all _ (says _ _ _ _ f.1 s.ensures.0) (omega arith) c.if-count-lt2.false (λ e. c.if-count-points.true (omega arith)), refl, refl) })
     (λ c. search rules)
     (λ c.
-    let s = c.before.before.before.before.before.before.before.before.before.before.before.scan in
-    let f = c.before.before.before.before.before.before.before.found.given in
+    let s = c.scan-found in
+    let f = c.found-1.given in
     let w = within _ _ f.1 s.ensures.1 in
     let k = s.auto.1.0 in
-    let n = c.before.before.before.wide.ensures.0 in
-    let t = c.before.wide2.ensures.0 in
+    let n = c.wide-points.ensures.0 in
+    let t = c.wide-triangles.ensures.0 in
     record {
       is = (
-        right_count _ c.before.before.before.before.before.before.before.before.before.before.before.before.before.if1.false s.new.1.0 _ (says _ _ _ _ f.1 s.ensures.0) (omega arith) c.before.before.before.before.before.if2.false (omega arith)
-            ∙ ap₂ (λ a d. some (laid a d s.new.1.0)) (sym n) (sym t),
+        right_count _ c.if-text-gt65536.false s.new.all _ (says _ _ _ _ f.1 s.ensures.0) (omega arith) c.if-count-lt2.false (omega arith)
+            ∙ ap₂ (λ a d. some (laid a d s.new.all)) (sym n) (sym t),
         omega arith,
       );
     }))

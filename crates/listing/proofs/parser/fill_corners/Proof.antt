@@ -5,14 +5,14 @@ use Rattle.laws.proofs.Front.{Filling, laying}
 use Rattle.listing.proofs.parser.fill_corners.Statement.{statement}
 use Rattle.listing.proofs.parser.fill_corners.Tie as tie
 
-abbrev invariant-loop : tie.invariant-loop
+abbrev invariant-loop : tie.invariant-loop-s
 invariant-loop all from n corners₀ s₀ corners s = Filling (λ k. get_or all (from + k) 0) n (length corners₀) corners₀ corners s
 
-abbrev decreases-loop : tie.decreases-loop
+abbrev decreases-loop : tie.decreases-loop-s
 decreases-loop all from n corners₀ s₀ corners s = n - s
 
-pub fill-corners-spec : {M : Type 1} → statement M
-fill-corners-spec =
+pub fill_corners_spec : {M : Type 1} → statement M
+fill_corners_spec =
     tie.close
     (tie.spec
     invariant-loop

@@ -6,6 +6,6 @@ use Rattle.listing.proofs.Putting.{put_one}
 use Rattle.listing.proofs.printer.put_end.Statement.{statement}
 use Rattle.listing.proofs.printer.put_end.Tie as tie
 
-pub put-end-spec : {M : Type 1} → statement M
+pub put_end_spec : {M : Type 1} → statement M
 unfolding onward
-put-end-spec = tie.close (tie.spec (λ c. search rules) (λ c. search rules) (λ c. search rules) (λ c. put_one))
+put_end_spec = tie.close (tie.spec (λ c. search rules) (λ c. search rules) (λ c. search rules) (λ c. put_one))

@@ -7,14 +7,14 @@ use Rattle.listing.proofs.Putting.{put_one, put_two}
 use Rattle.listing.proofs.printer.put_field.Statement.{statement}
 use Rattle.listing.proofs.printer.put_field.Tie as tie
 
-pub put-field-spec : {M : Type 1} → statement M
-put-field-spec =
+pub put_field_spec : {M : Type 1} → statement M
+put_field_spec =
     tie.close
     (tie.spec
     (λ c. search rules)
     (λ c. search rules)
     (λ c κs. simp length-set (omega arith))
     (λ c.
-    let a = c.before.before.before.before.before.args in
-    c.before.before.put-number.auto.0 ∙ length-set a.out.now a.at 32)
-    (λ c. (put_two put_one c.before.before.put-number.ensures.0, omega arith)))
+    let a = c.args in
+    c.put_number.auto.0 ∙ length-set a.out.now a.at 32)
+    (λ c. (put_two put_one c.put_number.ensures.0, omega arith)))

@@ -11,16 +11,16 @@ use Rattle.listing.proofs.Spelling.{spell_more, spell_text, fewer, decimal_short
 use Rattle.listing.proofs.printer.put_number.Statement.{statement}
 use Rattle.listing.proofs.printer.put_number.Tie as tie
 
-abbrev invariant-loop : tie.invariant-loop
+abbrev invariant-loop : tie.invariant-loop-rest
 invariant-loop out at n digits₀ i₀ rest₀ digits i rest =
     (1 ≤ i) × (i ≤ 20) × (length digits ≡ 20) × (rest < 10 ^ i) × (spelled i rest (drop i digits) ≡ decimal n)
 
-abbrev decreases-loop : tie.decreases-loop
+abbrev decreases-loop : tie.decreases-loop-rest
 decreases-loop out at n digits₀ i₀ rest₀ digits i rest = i
 
-pub put-number-spec : {M : Type 1} → statement M
+pub put_number_spec : {M : Type 1} → statement M
 unfolding decimal
-put-number-spec =
+put_number_spec =
     tie.close
     (tie.spec
     invariant-loop
@@ -32,9 +32,9 @@ put-number-spec =
     (λ c. omega arith)
     (λ c. omega arith)
     (λ c.
-    let l = c.before.loop in
-    let (m, f) = fewer l.i (l.i - 1) l.rest (omega arith) l.invariant.3 c.loop-test.true in
-    (m, omega arith, length-set l.digits (l.i - 1) (48 + l.rest % 10) ∙ l.invariant.2, f, spell_more l.digits l.i (l.i - 1) l.rest (omega arith) (omega arith) c.loop-test.true ∙ l.invariant.4))
+    let l = c.loop-rest in
+    let (m, f) = fewer l.i (l.i - 1) l.rest (omega arith) l.invariant.3 c.loop-rest-test.true in
+    (m, omega arith, length-set l.digits (l.i - 1) (48 + l.rest % 10) ∙ l.invariant.2, f, spell_more l.digits l.i (l.i - 1) l.rest (omega arith) (omega arith) c.loop-rest-test.true ∙ l.invariant.4))
     (λ c. omega arith)
     (λ c. omega arith)
     (λ c. omega arith)
@@ -43,11 +43,11 @@ put-number-spec =
     (λ c. omega arith)
     (λ c. simp length-set (omega arith))
     (λ c κs.
-    let l = c.before.before.before.before.loop in
-    rw (spell_text l.digits l.i (l.i - 1) l.rest (omega arith) (omega arith) l.invariant.2 c.before.before.before.loop-test.false ∙ l.invariant.4) (omega (arith, decimal_short c.before.before.before.before.before.before.args.n)))
-    (λ c. c.before.before.put-bytes.auto.0)
+    let l = c.loop-rest in
+    rw (spell_text l.digits l.i (l.i - 1) l.rest (omega arith) (omega arith) l.invariant.2 c.loop-rest-test.false ∙ l.invariant.4) (omega (arith, decimal_short c.args.n)))
+    (λ c. c.put_bytes.auto.0)
     (λ c.
-    let l = c.before.before.before.before.before.before.before.loop in
-    let n = c.before.before.before.before.before.before.before.before.before.args.n in
-    let p = put_same (spell_text l.digits l.i (l.i - 1) l.rest (omega arith) (omega arith) l.invariant.2 c.before.before.before.before.before.before.loop-test.false ∙ l.invariant.4) c.before.before.put-bytes.ensures in
+    let l = c.loop-rest in
+    let n = c.args.n in
+    let p = put_same (spell_text l.digits l.i (l.i - 1) l.rest (omega arith) (omega arith) l.invariant.2 c.loop-rest-test.false ∙ l.invariant.4) c.put_bytes.ensures in
     (p, omega (arith, decimal_short n))))

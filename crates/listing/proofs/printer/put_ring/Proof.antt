@@ -12,14 +12,14 @@ use Rattle.listing.proofs.Spelling.{put_ring_on, put_ring_end}
 use Rattle.listing.proofs.printer.put_ring.Statement.{statement}
 use Rattle.listing.proofs.printer.put_ring.Tie as tie
 
-abbrev invariant-loop : tie.invariant-loop
+abbrev invariant-loop : tie.invariant-loop-i
 invariant-loop out₀ at ring to₀ i₀ out to i = (i ≤ length ring) × (to ≤ at + 21 * i) × (length out ≡ length out₀) × Left out₀ at (onward ring) out to (onward (drop i ring))
 
-abbrev decreases-loop : tie.decreases-loop
+abbrev decreases-loop : tie.decreases-loop-i
 decreases-loop out₀ at ring to₀ i₀ out to i = length ring - i
 
-pub put-ring-spec : {M : Type 1} → statement M
-put-ring-spec =
+pub put_ring_spec : {M : Type 1} → statement M
+put_ring_spec =
     tie.close
     (tie.spec
     invariant-loop
@@ -32,13 +32,13 @@ put-ring-spec =
     (λ c. omega arith)
     (λ c. omega arith)
     (λ c.
-    let l = c.before.before.before.before.before.before.before.loop in
-    let p = c.before.before.put-field in (
+    let l = c.loop-i in
+    let p = c.put_field-to in (
       omega arith,
       omega arith,
       p.auto.0 ∙ l.invariant.2,
-      put_ring_on c.before.before.before.before.before.before.before.before.before.before.args.ring.now l.i l.invariant.3 _ c.before.before.before.before.before.before.loop-test.true c.before.before.before.wide.ensures p.ensures.0,
+      put_ring_on c.args.ring.now l.i l.invariant.3 _ c.loop-i-test.true c.wide.ensures p.ensures.0,
     ))
     (λ c κs. omega arith)
-    (λ c. c.before.before.put-end.auto.0 ∙ c.before.before.before.before.before.loop.invariant.2)
-    (λ c. put_ring_end c.before.before.before.before.before.before.before.before.args.ring.now c.before.before.before.before.before.loop.i c.before.before.before.before.before.loop.invariant.3 c.before.before.before.before.loop-test.false c.before.before.put-end.ensures))
+    (λ c. c.put_end.auto.0 ∙ c.loop-i.invariant.2)
+    (λ c. put_ring_end c.args.ring.now c.loop-i.i c.loop-i.invariant.3 c.loop-i-test.false c.put_end.ensures))

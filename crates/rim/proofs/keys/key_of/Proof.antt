@@ -7,12 +7,11 @@ use Rattle.rim.proofs.keys.key_of.Tie as tie
 
 returns : tie.Need-returns
 returns c =
-    let b = c.before.before.before.before.before.before.before in
-    let p = b.requires in
-    key_is (office b.args.xs.now b.args.ys.now b.args.corners.now) b.args.s c.before.before.before.side-squared.ensures (first_packed p.0 _ p.1 c.before.before.spot_at.ensures.0 c.before.spot-at2.ensures.0 c.lesser.ensures.0)
+    let p = c.requires in
+    key_is (office c.args.xs.now c.args.ys.now c.args.corners.now) c.args.s c.side_squared-long.ensures (first_packed p.0 _ p.1 c.spot_at-a.ensures.0 c.spot_at-b.ensures.0 c.lesser.ensures.0)
 
-pub key-of-spec : {M : Type 1} → statement M
-key-of-spec =
+pub key_of_spec : {M : Type 1} → statement M
+key_of_spec =
     tie.close
     (tie.spec
     (λ c. search rules)

@@ -10,14 +10,14 @@ use Rattle.rim.proofs.keys.second_before.Tie as tie
 
 returns : tie.Need-returns
 returns c =
-    let a = c.before.before.before.before.before.before.before.args in
+    let a = c.args in
     let o = office a.xs.now a.ys.now a.corners.now in
     ap₂ ltb
-    (c.before.before.second-of.ensures ∙ ap (λ t. packed (point o (second_end o t))) c.before.before.before.wide.ensures)
-    (c.second-of2.ensures ∙ ap (λ t. packed (point o (second_end o t))) c.before.wide2.ensures)
+    (c.second_of.ensures ∙ ap (λ t. packed (point o (second_end o t))) c.wide.ensures)
+    (c.second_of-2.ensures ∙ ap (λ t. packed (point o (second_end o t))) c.wide-2.ensures)
 
-pub second-before-spec : {M : Type 1} → statement M
-second-before-spec =
+pub second_before_spec : {M : Type 1} → statement M
+second_before_spec =
     tie.close
     (tie.spec
     (λ c κs. search rules)

@@ -5,10 +5,10 @@ use Rattle.rim.proofs.keys.second_of.Statement.{statement}
 use Rattle.rim.proofs.keys.second_of.Tie as tie
 
 returns : tie.Need-returns
-returns c = let p = c.before.before.before.before.before.before.requires in second_packed p.0 _ p.1 c.before.before.spot_at.ensures.0 c.before.spot-at2.ensures.0 c.greater.ensures
+returns c = let p = c.requires in second_packed p.0 _ p.1 c.spot_at.ensures.0 c.spot_at-2.ensures.0 c.greater.ensures
 
-pub second-of-spec : {M : Type 1} → statement M
-second-of-spec =
+pub second_of_spec : {M : Type 1} → statement M
+second_of_spec =
     tie.close
     (tie.spec
     (λ c. search rules)

@@ -9,8 +9,8 @@ use Rattle.sheet.proofs.Side.{last_below}
 use Rattle.rim.proofs.queue.is_stuck.Statement.{statement}
 use Rattle.rim.proofs.queue.is_stuck.Tie as tie
 
-pub is-stuck-spec : {M : Type 1} → statement M
-is-stuck-spec =
+pub is_stuck_spec : {M : Type 1} → statement M
+is_stuck_spec =
     tie.close
     (tie.spec
     (λ c. search rules)
@@ -20,6 +20,5 @@ is-stuck-spec =
     (λ c. search rules)
     (λ c κs. search rules)
     (λ c.
-    let b = c.before.before.before.before.before in
-    omega (arith, c.before.wide.ensures, b.requires.3 (last b.args.s) (last_below (length b.args.corners.now) b.args.s b.requires.0 b.requires.2)))
-    (λ c. ap (λ p. eqb (get_or c.before.before.before.before.before.args.rim.now p 0) 1) c.before.wide.ensures))
+    omega (arith, c.wide-apex.ensures, c.requires.3 (last c.args.s) (last_below (length c.args.corners.now) c.args.s c.requires.0 c.requires.2)))
+    (λ c. ap (λ p. eqb (get_or c.args.rim.now p 0) 1) c.wide-apex.ensures))

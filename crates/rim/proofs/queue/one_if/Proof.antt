@@ -12,5 +12,5 @@ byte_is : (b : Bool) → (bool_byte b ≡ cond b 1 0) × (bool_byte b ≤ 1)
 byte_is true = (refl, omega arith)
 byte_is false = (refl, omega arith)
 
-pub one-if-spec : {M : Type 1} → statement M
-one-if-spec = tie.close (tie.spec (λ c. search rules) (λ c. byte_is c.args.yes))
+pub one_if_spec : {M : Type 1} → statement M
+one_if_spec = tie.close (tie.spec (λ c. search rules) (λ c. byte_is c.args.yes))

@@ -8,23 +8,21 @@ use Rattle.rim.proofs.Ranked.{by_keys, by_seconds}
 use Rattle.rim.proofs.queue.outranks.Statement.{statement}
 use Rattle.rim.proofs.queue.outranks.Tie as tie
 
-returns : tie.Need-returns
+returns : tie.Need-returns-then-other-key
 returns c =
-    let b = c.before.before.before.before in
-    let a = b.args in
-    let p = b.requires in
+    let a = c.args in
+    let p = c.requires in
     let o = office a.xs.now a.ys.now a.corners.now in
-    ap (ltb a.other) p.3 ∙ ap (λ n. ltb n (key o a.s)) p.4 ∙ by_keys p.0 a.s a.r (λ z. c.if1.true (p.4 ∙ z ∙ sym p.3))
+    ap (ltb a.other) p.3 ∙ ap (λ n. ltb n (key o a.s)) p.4 ∙ by_keys p.0 a.s a.r (λ z. c.if-other-key.true (p.4 ∙ z ∙ sym p.3))
 
-returns-2 : tie.Need-returns-2
+returns-2 : tie.Need-returns
 returns-2 c =
-    let b = c.before.before.before.before.before in
-    let a = b.args in
-    let p = b.requires in
-    by_seconds p.0 a.s a.r p.1 p.2 (sym p.4 ∙ c.before.if1.false ∙ p.3) c.second-before.ensures
+    let a = c.args in
+    let p = c.requires in
+    by_seconds p.0 a.s a.r p.1 p.2 (sym p.4 ∙ c.if-other-key.false ∙ p.3) c.second_before.ensures
 
-pub outranks-spec : {M : Type 1} → statement M
-outranks-spec =
+pub outranks_spec : {M : Type 1} → statement M
+outranks_spec =
     tie.close
     (tie.spec
     returns

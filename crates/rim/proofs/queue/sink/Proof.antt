@@ -9,66 +9,58 @@ use Rattle.rim.proofs.Sinking.{Sinking, sink_begins, sinks, stays_last, stays_ov
 use Rattle.rim.proofs.queue.sink.Statement.{statement}
 use Rattle.rim.proofs.queue.sink.Tie as tie
 
-abbrev invariant-loop : tie.invariant-loop
+abbrev invariant-loop : tie.invariant-loop-c
 invariant-loop xs ys corners queue₀ keys₀ m s key i₀ c₀ queue keys i c = Sinking (office xs ys corners) queue₀ queue keys m s i c
 
-abbrev decreases-loop : tie.decreases-loop
+abbrev decreases-loop : tie.decreases-loop-c
 decreases-loop xs ys corners queue₀ keys₀ m s key i₀ c₀ queue keys i c = m - i
 
-loop-holds : tie.Need-loop-init invariant-loop decreases-loop
-loop-holds c = let b = c.before.before.before in sink_begins b.requires.0.1 b.requires.0.2 b.requires.1.0 b.requires.0.3
+loop-holds : tie.Need-loop-c-init invariant-loop decreases-loop
+loop-holds c = sink_begins c.requires.0.1 c.requires.0.2 c.requires.1.0 c.requires.0.3
 
-leader-requires : tie.Need-leader-requires invariant-loop decreases-loop
+leader-requires : tie.Need-leader-g-requires invariant-loop decreases-loop
 leader-requires c κs =
-    let at = c.before.before.before in
-    let b = at.before.before.before.before in
-    (b.requires.0.0, c.before.before.loop-test.true, b.requires.0.2, at.loop.invariant.now)
+    (c.requires.0.0, c.loop-c-test.true, c.requires.0.2, c.loop-c.invariant.now)
 
-outranks-requires : tie.Need-outranks-requires invariant-loop decreases-loop
+outranks-requires : tie.Need-outranks-up-requires invariant-loop decreases-loop
 outranks-requires c κs =
-    let l = c.before.before in
-    let at = l.before.before.before.before in
-    let b = at.before.before.before.before in
-    let g = l.leader.ensures.within in
-    (b.requires.0.0, at.loop.invariant.now.known _ g, b.requires.1.0, at.loop.invariant.now.measured _ g, b.requires.1.1)
+    let g = c.leader-g.ensures.within in
+    (c.requires.0.0, c.loop-c.invariant.now.known _ g, c.requires.1.0, c.loop-c.invariant.now.measured _ g, c.requires.1.1)
 
-loop-again : tie.Need-loop-preserved invariant-loop decreases-loop
+loop-again : tie.Need-loop-c-preserved invariant-loop decreases-loop
 loop-again c =
-    let l = c.before.before.before.before in
-    let at = l.before.before.before.before in
-    sinks at.loop.invariant l.leader.ensures (up c.before.outranks.ensures (not-false _ c.if1.false))
+    sinks c.loop-c.invariant c.leader-g.ensures (up c.outranks-up.ensures (not-false _ c.if-not-up.false))
 
 returns : tie.Need-returns invariant-loop decreases-loop
 returns c =
-    let b = c.before.before.before.before.before in
     ⊎_elim
-    (λ w. stays_last c.before.loop.invariant b.requires.1.1 (omega arith))
-    (λ w. stays_over c.before.loop.invariant b.requires.1.1 w.3.ensures (not_up w.6.ensures (not-true _ w.7.taken)))
-    c.loop-test.branch
+    (λ w. stays_last c.loop-c.invariant c.requires.1.1 (omega arith))
+    (λ w. stays_over c.loop-c.invariant c.requires.1.1 w.3.ensures (not_up w.6.ensures (not-true _ w.7.taken)))
+    c.loop-c-test.branch
 
-pub sink-spec : {M : Type 1} → statement M
-sink-spec =
+pub sink_spec : {M : Type 1} → statement M
+sink_spec =
     tie.close
     (tie.spec
     invariant-loop
     decreases-loop
     loop-holds
     leader-requires
-    (λ c. omega (arith, c.before.before.before.before.loop.invariant.room, c.leader.ensures.within))
-    (λ c. omega (arith, c.before.before.before.before.loop.invariant.room, c.leader.ensures.within, c.before.before.before.before.loop.invariant.size))
-    (λ c. omega (arith, c.before.before.before.before.before.loop.invariant.room, c.before.leader.ensures.within))
-    (λ c. omega (arith, c.before.before.before.before.before.loop.invariant.room, c.before.leader.ensures.within, c.before.before.before.before.before.loop.invariant.size))
+    (λ c. omega (arith, c.loop-c.invariant.room, c.leader-g.ensures.within))
+    (λ c. omega (arith, c.loop-c.invariant.room, c.leader-g.ensures.within, c.loop-c.invariant.size))
+    (λ c. omega (arith, c.loop-c.invariant.room, c.leader-g.ensures.within))
+    (λ c. omega (arith, c.loop-c.invariant.room, c.leader-g.ensures.within, c.loop-c.invariant.size))
     outranks-requires
-    (λ c. omega (arith, c.before.before.before.before.before.before.before.before.loop.invariant.room, c.before.before.before.before.before.before.before.before.loop.invariant.place))
-    (λ c. omega (arith, c.before.before.before.before.before.before.before.before.loop.invariant.room, c.before.before.before.before.before.before.before.before.loop.invariant.place, c.before.before.before.before.before.before.before.before.loop.invariant.size))
-    (λ c. omega (arith, c.before.before.before.before.before.before.before.before.loop.invariant.room, c.before.before.before.before.before.before.before.before.loop.invariant.place))
-    (λ c. omega (arith, c.before.before.before.before.before.before.before.before.loop.invariant.room, c.before.before.before.before.before.before.before.before.loop.invariant.place, c.before.before.before.before.before.before.before.before.loop.invariant.size))
-    (λ c. omega (arith, c.before.before.before.before.before.before.before.before.loop.invariant.room, c.before.before.before.before.leader.ensures.within))
-    (λ c. omega (arith, c.before.before.before.before.before.before.before.before.loop.invariant.room, c.before.before.before.before.leader.ensures.within))
-    (λ c. omega (arith, c.before.before.before.before.before.before.before.before.loop.invariant.room, c.before.before.before.before.leader.ensures.within, c.before.before.before.before.leader.ensures.from, c.before.before.before.before.before.before.before.before.loop.invariant.child))
+    (λ c. omega (arith, c.loop-c.invariant.room, c.loop-c.invariant.place))
+    (λ c. omega (arith, c.loop-c.invariant.room, c.loop-c.invariant.place, c.loop-c.invariant.size))
+    (λ c. omega (arith, c.loop-c.invariant.room, c.loop-c.invariant.place))
+    (λ c. omega (arith, c.loop-c.invariant.room, c.loop-c.invariant.place, c.loop-c.invariant.size))
+    (λ c. omega (arith, c.loop-c.invariant.room, c.leader-g.ensures.within))
+    (λ c. omega (arith, c.loop-c.invariant.room, c.leader-g.ensures.within))
+    (λ c. omega (arith, c.loop-c.invariant.room, c.leader-g.ensures.within, c.leader-g.ensures.from, c.loop-c.invariant.child))
     loop-again
-    (λ c. omega (arith, c.before.loop.invariant.room, c.before.loop.invariant.place))
-    (λ c. omega (arith, c.before.loop.invariant.room, c.before.loop.invariant.place, c.before.loop.invariant.size))
-    (λ c. omega (arith, c.before.loop.invariant.room, c.before.loop.invariant.place))
-    (λ c. omega (arith, c.before.loop.invariant.room, c.before.loop.invariant.place, c.before.loop.invariant.size))
+    (λ c. omega (arith, c.loop-c.invariant.room, c.loop-c.invariant.place))
+    (λ c. omega (arith, c.loop-c.invariant.room, c.loop-c.invariant.place, c.loop-c.invariant.size))
+    (λ c. omega (arith, c.loop-c.invariant.room, c.loop-c.invariant.place))
+    (λ c. omega (arith, c.loop-c.invariant.room, c.loop-c.invariant.place, c.loop-c.invariant.size))
     returns)

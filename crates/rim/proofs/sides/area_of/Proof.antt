@@ -18,36 +18,35 @@ first c = first_there c.requires.0 c.args.t c.requires.1
 there : (c : tie.Start) (i : ℕ) → i < 3 → c.args.t * 3 + i < length c.args.corners.now
 there c = corner_there c.requires.0 c.args.t c.requires.1
 
-is_area : (c : tie.After-at-corner6)
-    → turn (spot c.before.before.before.before.before.at-corner.result c.before.before.before.before.at-corner2.result) (spot c.before.before.before.at-corner3.result c.before.before.at-corner4.result) (spot c.before.at-corner5.result c.at-corner6.result)
-    ≡ (let b = c.before.before.before.before.before.before.before.before.before in area (office b.args.xs.now b.args.ys.now b.args.corners.now) b.args.t)
+is_area : (c : tie.After-at_corner-6)
+    → turn (spot c.at_corner.result c.at_corner-2.result) (spot c.at_corner-3.result c.at_corner-4.result) (spot c.at_corner-5.result c.at_corner-6.result)
+    ≡ (area (office c.args.xs.now c.args.ys.now c.args.corners.now) c.args.t)
 is_area c =
-    let b = c.before.before.before.before.before.before.before.before.before in
-    area_read b.args.xs.now b.args.ys.now b.args.corners.now b.args.t c.before.before.before.before.before.at-corner.ensures c.before.before.before.before.at-corner2.ensures
-    c.before.before.before.at-corner3.ensures c.before.before.at-corner4.ensures c.before.at-corner5.ensures c.at-corner6.ensures
+    area_read c.args.xs.now c.args.ys.now c.args.corners.now c.args.t c.at_corner.ensures c.at_corner-2.ensures
+    c.at_corner-3.ensures c.at_corner-4.ensures c.at_corner-5.ensures c.at_corner-6.ensures
 
-pub area-of-spec : {M : Type 1} → statement M
-area-of-spec =
+pub area_of_spec : {M : Type 1} → statement M
+area_of_spec =
     tie.close
     (tie.spec
     (λ c. search rules)
-    (λ c κs. let b = c.before.before.before in x_there b.requires.0 _ (first b))
-    (λ c κs. let b = c.before.before.before.before in y_there b.requires.0 _ (first b))
+    (λ c κs. x_there c.requires.0 _ (first c.before.before.before))
+    (λ c κs. y_there c.requires.0 _ (first c.before.before.before.before))
     (λ c. search rules)
-    (λ c κs. let b = c.before.before.before.before.before in x_there b.requires.0 _ (there b 1 (omega arith)))
+    (λ c κs. x_there c.requires.0 _ (there c.before.before.before.before.before 1 (omega arith)))
     (λ c. search rules)
-    (λ c κs. let b = c.before.before.before.before.before.before in y_there b.requires.0 _ (there b 1 (omega arith)))
+    (λ c κs. y_there c.requires.0 _ (there c.before.before.before.before.before.before 1 (omega arith)))
     (λ c. search rules)
-    (λ c κs. let b = c.before.before.before.before.before.before.before in x_there b.requires.0 _ (there b 2 (omega arith)))
+    (λ c κs. x_there c.requires.0 _ (there c.before.before.before.before.before.before.before 2 (omega arith)))
     (λ c. search rules)
-    (λ c κs. let b = c.before.before.before.before.before.before.before.before in y_there b.requires.0 _ (there b 2 (omega arith)))
+    (λ c κs. y_there c.requires.0 _ (there c.before.before.before.before.before.before.before.before 2 (omega arith)))
     (λ c κs.
-    let b = c.before.before.before.before.before.before.before.before.before in (
+    (
       (
-        small_there b.requires.0 _ (first b) c.before.before.before.before.before.at-corner.ensures c.before.before.before.before.at-corner2.ensures,
-        small_there b.requires.0 _ (there b 1 (omega arith)) c.before.before.before.at-corner3.ensures c.before.before.at-corner4.ensures,
-        small_there b.requires.0 _ (there b 2 (omega arith)) c.before.at-corner5.ensures c.at-corner6.ensures,
+        small_there c.requires.0 _ (first c.before.before.before.before.before.before.before.before.before) c.at_corner.ensures c.at_corner-2.ensures,
+        small_there c.requires.0 _ (there c.before.before.before.before.before.before.before.before.before 1 (omega arith)) c.at_corner-3.ensures c.at_corner-4.ensures,
+        small_there c.requires.0 _ (there c.before.before.before.before.before.before.before.before.before 2 (omega arith)) c.at_corner-5.ensures c.at_corner-6.ensures,
       ),
-      subst (λ z. pos 0 <ℤ z) (sym (is_area c)) (b.requires.0.left b.args.t b.requires.1),
+      subst (λ z. pos 0 <ℤ z) (sym (is_area c)) (c.requires.0.left c.args.t c.requires.1),
     ))
     (λ c. c.doubled.ensures ∙ ap nat_abs (is_area c.before)))

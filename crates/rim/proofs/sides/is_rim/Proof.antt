@@ -5,18 +5,16 @@ use Rattle.rim.proofs.Mated.{rim_there, rim_absent}
 use Rattle.rim.proofs.sides.is_rim.Statement.{statement}
 use Rattle.rim.proofs.sides.is_rim.Tie as tie
 
-returns : tie.Need-returns
+returns : tie.Need-returns-then-m-corners
 returns c =
-    let b = c.before.before.before.before.before.before.before in
-    rim_there b.args.corners.now b.args.mate.now b.args.kept.now b.requires.0.0 b.requires.0.1 b.args.s _ b.requires.0.3 b.requires.1 c.before.before.before.wide.ensures (omega arith)
+    rim_there c.args.corners.now c.args.mate.now c.args.kept.now c.requires.0.0 c.requires.0.1 c.args.s _ c.requires.0.3 c.requires.1 c.wide-m.ensures (omega arith)
 
-returns-2 : tie.Need-returns-2
+returns-2 : tie.Need-returns
 returns-2 c =
-    let b = c.before.before.before.before.before.before in
-    rim_absent b.args.corners.now b.args.mate.now b.args.kept.now b.requires.0.0 b.requires.0.1 b.args.s _ b.requires.0.3 b.requires.1 c.before.before.wide.ensures (omega arith)
+    rim_absent c.args.corners.now c.args.mate.now c.args.kept.now c.requires.0.0 c.requires.0.1 c.args.s _ c.requires.0.3 c.requires.1 c.wide-m.ensures (omega arith)
 
-pub is-rim-spec : {M : Type 1} → statement M
-is-rim-spec =
+pub is_rim_spec : {M : Type 1} → statement M
+is_rim_spec =
     tie.close
     (tie.spec
     (λ c. search rules)

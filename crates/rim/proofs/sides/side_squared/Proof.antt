@@ -4,22 +4,21 @@ use Rattle.rim.proofs.Cornered.{x_there, y_there, small_there, end_there, long_r
 use Rattle.rim.proofs.sides.side_squared.Statement.{statement}
 use Rattle.rim.proofs.sides.side_squared.Tie as tie
 
-pub side-squared-spec : {M : Type 1} → statement M
-side-squared-spec =
+pub side_squared_spec : {M : Type 1} → statement M
+side_squared_spec =
     tie.close
     (tie.spec
     (λ c. search rules)
     (λ c. search rules)
     (λ c. search rules)
-    (λ c κs. x_there c.before.before.before.requires.0 _ c.before.before.before.requires.1)
-    (λ c κs. y_there c.before.before.before.before.requires.0 _ c.before.before.before.before.requires.1)
-    (λ c κs. let b = c.before.before.before.before.before in x_there b.requires.0 _ (end_there b.requires.0 _ b.requires.1))
-    (λ c κs. let b = c.before.before.before.before.before.before in y_there b.requires.0 _ (end_there b.requires.0 _ b.requires.1))
+    (λ c κs. x_there c.requires.0 _ c.requires.1)
+    (λ c κs. y_there c.requires.0 _ c.requires.1)
+    (λ c κs. x_there c.requires.0 _ (end_there c.requires.0 _ c.requires.1))
+    (λ c κs. y_there c.requires.0 _ (end_there c.requires.0 _ c.requires.1))
     (λ c κs.
-    let b = c.before.before.before.before.before.before.before in (
-      small_there b.requires.0 _ b.requires.1 c.before.before.before.at-corner.ensures c.before.before.at-corner2.ensures,
-      small_there b.requires.0 _ (end_there b.requires.0 _ b.requires.1) c.before.at-corner3.ensures c.at-corner4.ensures,
+    (
+      small_there c.requires.0 _ c.requires.1 c.at_corner.ensures c.at_corner-2.ensures,
+      small_there c.requires.0 _ (end_there c.requires.0 _ c.requires.1) c.at_corner-3.ensures c.at_corner-4.ensures,
     ))
     (λ c.
-    let b = c.before.before.before.before.before.before.before.before in
-    long_read b.args.xs.now b.args.ys.now b.args.corners.now b.args.s c.before.before.before.before.at-corner.ensures c.before.before.before.at-corner2.ensures c.before.before.at-corner3.ensures c.before.at-corner4.ensures c.squared.ensures))
+    long_read c.args.xs.now c.args.ys.now c.args.corners.now c.args.s c.at_corner.ensures c.at_corner-2.ensures c.at_corner-3.ensures c.at_corner-4.ensures c.squared.ensures))

@@ -9,27 +9,24 @@ use lib.ListN.{length, set, drop, replicate, length-set}
 use Rattle.rim.proofs.start.fill.Statement.{statement}
 use Rattle.rim.proofs.start.fill.Tie as tie
 
-abbrev invariant-loop : tie.invariant-loop
+abbrev invariant-loop : tie.invariant-loop-i
 invariant-loop list₀ n v i₀ list i = (i ≤ n) × (length list ≡ length list₀) × (list ≡ replicate i v ++ drop i list₀)
 
-abbrev decreases-loop : tie.decreases-loop
+abbrev decreases-loop : tie.decreases-loop-i
 decreases-loop list₀ n v i₀ list i = n - i
 
-loop-again : tie.Need-loop-preserved invariant-loop decreases-loop
+loop-again : tie.Need-loop-i-preserved invariant-loop decreases-loop
 loop-again c =
-    let a = c.before in
-    let b = a.before in (
+    (
       omega arith,
-      length-set a.loop.list a.loop.i b.args.v ∙ a.loop.invariant.1,
-      ap (λ l. set l a.loop.i b.args.v) a.loop.invariant.2 ∙ fill_more a.loop.i b.args.v b.args.list.now (omega arith),
+      length-set c.loop-i.list c.loop-i.i c.args.v ∙ c.loop-i.invariant.1,
+      ap (λ l. set l c.loop-i.i c.args.v) c.loop-i.invariant.2 ∙ fill_more c.loop-i.i c.args.v c.args.list.now (omega arith),
     )
 
 returns : tie.Need-returns invariant-loop decreases-loop
 returns c =
-    let a = c.before in
-    let b = a.before in
-    let e : a.loop.i ≡ b.args.n = omega arith in
-    a.loop.invariant.2 ∙ ap (λ i. replicate i b.args.v ++ drop i b.args.list.now) e
+    let e : c.loop-i.i ≡ c.args.n = omega arith in
+    c.loop-i.invariant.2 ∙ ap (λ i. replicate i c.args.v ++ drop i c.args.list.now) e
 
 pub fill_spec : {M : Type 1} → statement M
 fill_spec =

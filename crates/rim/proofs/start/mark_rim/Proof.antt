@@ -8,27 +8,27 @@ use Rattle.rim.proofs.Begun.{Marking, marks_none, marks_one, marks_all, filled_l
 use Rattle.rim.proofs.start.mark_rim.Statement.{statement}
 use Rattle.rim.proofs.start.mark_rim.Tie as tie
 
-abbrev invariant-loop : tie.invariant-loop
+abbrev invariant-loop : tie.invariant-loop-s
 invariant-loop corners mate kept rim₀ points s₀ rim s = Marking corners (front corners kept) points rim₀ rim s
 
-abbrev decreases-loop : tie.decreases-loop
+abbrev decreases-loop : tie.decreases-loop-s
 decreases-loop corners mate kept rim₀ points s₀ rim s = length corners - s
 
-mark-side-requires : tie.Need-mark-side-requires invariant-loop decreases-loop
+mark-side-requires : tie.Need-mark_side-requires invariant-loop decreases-loop
 mark-side-requires c κs =
-    let p = c.before.before.before.before.before.before.before.before.before.before.requires in
-    let i = c.before.before.loop.invariant in
-    ((p.0.0, p.0.1, p.0.2, c.before.loop-test.true, p.0.3), (p.1.0, λ s l. omega (arith, p.1.1.1 s l, i.room)))
+    let p = c.requires in
+    let i = c.loop-s.invariant in
+    ((p.0.0, p.0.1, p.0.2, c.loop-s-test.true, p.0.3), (p.1.0, λ s l. omega (arith, p.1.1.1 s l, i.room)))
 
-pub mark-rim-spec : {M : Type 1} → statement M
-mark-rim-spec =
+pub mark_rim_spec : {M : Type 1} → statement M
+mark_rim_spec =
     tie.close
     (tie.spec invariant-loop decreases-loop
-    (λ c κs. c.before.before.before.before.requires.1.1.0)
-    (λ c. marks_none _ _ _ _ _ c.before.before.before.before.before.before.before.requires.1.1.0 c.before.before.fill.ensures)
+    (λ c κs. c.requires.1.1.0)
+    (λ c. marks_none _ _ _ _ _ c.requires.1.1.0 c.fill.ensures)
     mark-side-requires
     (λ c. omega arith)
     (λ c. omega arith)
-    (λ c. let p = c.before.before.before.before.before.before.before.before.before.before.before.before.before.requires in marks_one _ _ _ _ _ _ p.0.1 p.1.1.1 c.before.before.before.before.before.loop.invariant c.before.before.before.before.loop-test.true _ c.before.before.mark-side.ensures)
-    (λ c. c.before.loop.invariant.long ∙ filled_long _ _ _ _ c.before.before.before.before.before.before.before.before.before.requires.1.1.0 c.before.before.before.before.fill.ensures)
-    (λ c. marks_all _ _ _ _ _ _ _ c.before.before.before.before.before.before.before.before.before.requires.1.1.0 c.before.before.before.before.fill.ensures c.before.loop.invariant c.loop-test.false))
+    (λ c. let p = c.requires in marks_one _ _ _ _ _ _ p.0.1 p.1.1.1 c.loop-s.invariant c.loop-s-test.true _ c.mark_side.ensures)
+    (λ c. c.loop-s.invariant.long ∙ filled_long _ _ _ _ c.requires.1.1.0 c.fill.ensures)
+    (λ c. marks_all _ _ _ _ _ _ _ c.requires.1.1.0 c.fill.ensures c.loop-s.invariant c.loop-s-test.false))

@@ -15,10 +15,10 @@ module _ (b : tie.Start) where
   start = b.requires.1.1 b.args.s b.requires.0.3
 
   end : get_or b.args.corners.now (next b.args.s) 0 < length b.args.rim.now
-  end = b.pre.1.1 (next b.args.s) (next_below (length b.args.corners.now) b.args.s b.pre.0.1 b.pre.0.3)
+  end = b.requires.1.1 (next b.args.s) (next_below (length b.args.corners.now) b.args.s b.requires.0.1 b.requires.0.3)
 
-pub mark-side-spec : {M : Type 1} → statement M
-mark-side-spec =
+pub mark_side_spec : {M : Type 1} → statement M
+mark_side_spec =
     tie.close
     (tie.spec
     (λ c κs. search rules)
@@ -27,12 +27,12 @@ mark-side-spec =
     (λ c. search rules)
     (λ c. search rules)
     (λ c. search rules)
-    (λ c. omega (arith, c.shared-slice-known3.given c.before.before.before.before.before.before.args.s))
+    (λ c. omega (arith, c.shared_slice_known-then-bared-1.given c.args.s))
     (λ c. search rules)
     (λ c. search rules)
-    (λ c. omega (arith, c.shared-slice-known4.given (next c.before.before.before.before.before.before.before.args.s)))
+    (λ c. omega (arith, c.shared_slice_known-then-bared-2-1.given (next c.args.s)))
     (λ c. start c.before.before.before.before.before.before.before)
     (λ c. simp length-set (end c.before.before.before.before.before.before.before))
     (λ c. search rules)
-    (λ c. ap (λ b. ends_marked c.before.before.before.before.before.before.before.args.corners.now c.before.before.before.before.before.before.before.args.s b c.before.before.before.before.before.before.before.args.rim.now) (sym c.before.before.if1.true ∙ c.before.before.before.is-rim.ensures))
-    (λ c. ap (λ b. ends_marked c.before.before.before.before.before.args.corners.now c.before.before.before.before.before.args.s b c.before.before.before.before.before.args.rim.now) (sym c.if1.false ∙ c.before.is-rim.ensures)))
+    (λ c. ap (λ b. ends_marked c.args.corners.now c.args.s b c.args.rim.now) (sym c.if-bared.true ∙ c.is_rim-bared.ensures))
+    (λ c. ap (λ b. ends_marked c.args.corners.now c.args.s b c.args.rim.now) (sym c.if-bared.false ∙ c.is_rim-bared.ensures)))

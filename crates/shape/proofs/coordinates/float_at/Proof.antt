@@ -7,11 +7,11 @@ use Rattle.shape.proofs.coordinates.float_at.Tie as tie
 number8-requires : tie.Need-number8-requires
 number8-requires c κs = search rules
 
-float-of-requires : tie.Need-float-of-requires
+float-of-requires : tie.Need-float_of-requires
 float-of-requires c κs = search rules
 
 returns : tie.Need-returns
-returns c = c.float_of.ensures ∙ ap (of_bits binary64) c.before.number8.ensures
+returns c = c.float_of.ensures ∙ ap (of_bits binary64) c.number8.ensures
 
-pub float-at-spec : {M : Type 1} → statement M
-float-at-spec = tie.close (tie.spec number8-requires float-of-requires returns)
+pub float_at_spec : {M : Type 1} → statement M
+float_at_spec = tie.close (tie.spec number8-requires float-of-requires returns)

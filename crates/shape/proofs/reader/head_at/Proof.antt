@@ -8,79 +8,79 @@ use Rattle.shape.proofs.Shapes.{typed}
 use Rattle.shape.proofs.reader.head_at.Statement.{statement}
 use Rattle.shape.proofs.reader.head_at.Tie as tie
 
-type-fault-requires : tie.Need-type-fault-requires
+type-fault-requires : tie.Need-type_fault-t-requires
 type-fault-requires c κs = search rules
 
-enum-known-t : tie.Need-enum-known-t
+enum-known-t : tie.Need-enum_known-t
 enum-known-t c = search rules
 
-returns : tie.Need-returns
+returns : tie.Need-returns-in-At
 returns c =
-    let a = c.before.before.before.before.before.args in
+    let a = c.args in
     let s = a.s.now in
-    stops_first (type_asks s a.at 3 22) _ tt (length_at s a.at) _ _ (sym (ap faulty c.before.t.given.1) ∙ c.before.before.before.type_fault.ensures) refl
+    stops_first (type_asks s a.at 3 22) _ tt (length_at s a.at) _ _ (sym (ap faulty c.in-At.is) ∙ c.type_fault-t.ensures) refl
 
-enum_told : tie.Need-enum-told
+enum_told : tie.Need-enum_told-1
 enum_told c = search rules
 
-shared-slice-read-order : tie.Need-shared-slice-read-order
+shared-slice-read-order : tie.Need-bounds-s-at
 shared-slice-read-order c =
-    let a = c.before.before.before.before.before.args in
-    let h = typed a.s.now a.at 3 22 (sym (ap faulty c.before.enum_told.given.1) ∙ c.before.before.before.type_fault.ensures) in
+    let a = c.args in
+    let h = typed a.s.now a.at 3 22 (sym (ap faulty c.enum_told-1.given.1) ∙ c.type_fault-t.ensures) in
     let l : a.at + 5 ≤ length a.s.now = h.1 in
     omega arith
 
-counts-fault-requires : tie.Need-counts-fault-requires
+counts-fault-requires : tie.Need-counts_fault-f-requires
 counts-fault-requires c κs =
-    let a = c.before.before.before.before.before.args in
-    (typed a.s.now a.at 3 22 (sym (ap faulty c.before.enum_told.given.1) ∙ c.before.before.before.type_fault.ensures)).1
+    let a = c.args in
+    (typed a.s.now a.at 3 22 (sym (ap faulty c.enum_told-1.given.1) ∙ c.type_fault-t.ensures)).1
 
-enum-known-f : tie.Need-enum-known-f
+enum-known-f : tie.Need-enum_known-f
 enum-known-f c = search rules
 
-returns-2 : tie.Need-returns-2
+returns-2 : tie.Need-returns-in-At-f
 returns-2 c =
-    let a = c.before.before.before.before.before.before.before.before.before.args in
+    let a = c.args in
     let s = a.s.now in
-    let g = sym (ap faulty c.before.before.before.before.before.enum_told.given.1) ∙ c.before.before.before.before.before.before.before.type_fault.ensures in
-    let f = sym (ap faulty c.before.f.given.1) ∙ c.before.before.before.counts-fault.ensures in
+    let g = sym (ap faulty c.enum_told-1.given.1) ∙ c.type_fault-t.ensures in
+    let f = sym (ap faulty c.in-At-f.is) ∙ c.counts_fault-f.ensures in
     passes_all (type_asks s a.at 3 22) (count_asks (order_at s a.at) s a.at a.room) tt (length_at s a.at) g
     (refused_other (count_asks (order_at s a.at) s a.at a.room) tt (length_at s a.at) _ _ f refl)
 
-enum-told-2 : tie.Need-enum-told-2
+enum-told-2 : tie.Need-enum_told-in_default-f
 enum-told-2 c = search rules
 
-add-number4 : tie.Need-overflow-add-number4
+add-number4 : tie.Need-overflow_add-at
 add-number4 c = search rules
 
-number4-requires : tie.Need-number4-requires
+number4-requires : tie.Need-number4-count-requires
 number4-requires c κs =
-    let a = c.before.before.before.before.before.before.before.before.args in
+    let a = c.args in
     let s = a.s.now in
-    let g = sym (ap faulty c.before.before.before.before.enum_told.given.1) ∙ c.before.before.before.before.before.before.type_fault.ensures in
-    let f = sym (ap faulty c.enum-told2.given.1) ∙ c.before.before.counts-fault.ensures in
+    let g = sym (ap faulty c.enum_told-1.given.1) ∙ c.type_fault-t.ensures in
+    let f = sym (ap faulty c.enum_told-in_default-f-1.given.1) ∙ c.counts_fault-f.ensures in
     let h = head_good s a.at a.room (length_at s a.at) (head_passed s a.at a.room g f) in
     omega (arith, h.there)
 
-sub-t13 : tie.Need-overflow-sub-t13
+sub-t13 : tie.Need-overflow_sub-result
 sub-t13 c =
-    let a = c.before.before.before.before.before.before.before.before.before.args in
+    let a = c.args in
     let s = a.s.now in
-    let g = sym (ap faulty c.before.before.before.before.before.enum_told.given.1) ∙ c.before.before.before.before.before.before.before.type_fault.ensures in
-    let f = sym (ap faulty c.before.enum-told2.given.1) ∙ c.before.before.before.counts-fault.ensures in
+    let g = sym (ap faulty c.enum_told-1.given.1) ∙ c.type_fault-t.ensures in
+    let f = sym (ap faulty c.enum_told-in_default-f-1.given.1) ∙ c.counts_fault-f.ensures in
     let h = head_good s a.at a.room (length_at s a.at) (head_passed s a.at a.room g f) in
-    omega (arith, h.least, c.number4.ensures.0)
+    omega (arith, h.least, c.number4-count.ensures.0)
 
-returns-3 : tie.Need-returns-3
+returns-3 : tie.Need-returns
 returns-3 c =
-    let a = c.before.before.before.before.before.before.before.before.before.args in
+    let a = c.args in
     let s = a.s.now in
-    let g = sym (ap faulty c.before.before.before.before.before.enum_told.given.1) ∙ c.before.before.before.before.before.before.before.type_fault.ensures in
-    let f = sym (ap faulty c.before.enum-told2.given.1) ∙ c.before.before.before.counts-fault.ensures in
-    ap (λ (k : ℕ). gives (k - 1)) c.number4.ensures.0 ∙ head_passed s a.at a.room g f
+    let g = sym (ap faulty c.enum_told-1.given.1) ∙ c.type_fault-t.ensures in
+    let f = sym (ap faulty c.enum_told-in_default-f-1.given.1) ∙ c.counts_fault-f.ensures in
+    ap (λ (k : ℕ). gives (k - 1)) c.number4-count.ensures.0 ∙ head_passed s a.at a.room g f
 
-pub head-at-spec : {M : Type 1} → statement M
-head-at-spec =
+pub head_at_spec : {M : Type 1} → statement M
+head_at_spec =
     tie.close
     (tie.spec
     type-fault-requires

@@ -9,131 +9,131 @@ use Rattle.shape.proofs.Polygons.{scan_refused, left_open, closed}
 use Rattle.shape.proofs.reader.polygon_at.Statement.{statement}
 use Rattle.shape.proofs.reader.polygon_at.Tie as tie
 
-head-at-requires : tie.Need-head-at-requires
+head-at-requires : tie.Need-head_at-head-requires
 head-at-requires c κs = search rules
 
-enum-known-head : tie.Need-enum-known-head
+enum-known-head : tie.Need-enum_known-head
 enum-known-head c = search rules
 
-enum_told : tie.Need-enum-told
+enum_told : tie.Need-enum_told-1
 enum_told c = search rules
 
-returns : tie.Need-returns
+returns : tie.Need-returns-in_default
 returns c =
-    let a = c.before.before.before.before.args in
+    let a = c.args in
     let s = a.s.now in
-    let told = ap reading c.enum_told.given.1 in
-    stops_first (head_asks s a.at a.room) _ (length_at s a.at) (length_at s a.at) _ _ (sym told ∙ c.before.before.head_at.ensures) told
+    let told = ap reading c.enum_told-1.given.1 in
+    stops_first (head_asks s a.at a.room) _ (length_at s a.at) (length_at s a.at) _ _ (sym told ∙ c.head_at-head.ensures) told
 
-shared-slice-read-order : tie.Need-shared-slice-read-order
+shared-slice-read-order : tie.Need-bounds-s-at
 shared-slice-read-order c =
-    let a = c.before.before.before.before.before.before.args in
+    let a = c.args in
     let s = a.s.now in
-    let n = c.before.before.head.given.0.0 in
-    let answer = sym (ap reading c.before.before.head.given.1) ∙ c.before.before.before.before.head_at.ensures in
+    let n = c.in-Ring.n in
+    let answer = sym (ap reading c.in-Ring.is) ∙ c.head_at-head.ensures in
     let h = head_good s a.at a.room n answer in
     omega arith
 
-add-scan : tie.Need-overflow-add-scan
+add-scan : tie.Need-overflow_add-at
 add-scan c = search rules
 
-add-scan-2 : tie.Need-overflow-add-scan-2
+add-scan-2 : tie.Need-overflow_add-n
 add-scan-2 c =
-    let a = c.before.before.before.before.before.before.args in
+    let a = c.args in
     let s = a.s.now in
-    let n = c.before.before.head.given.0.0 in
-    let answer = sym (ap reading c.before.before.head.given.1) ∙ c.before.before.before.before.head_at.ensures in
+    let n = c.in-Ring.n in
+    let answer = sym (ap reading c.in-Ring.is) ∙ c.head_at-head.ensures in
     let h = head_good s a.at a.room n answer in
     omega arith
 
-scan-requires : tie.Need-scan-requires
+scan-requires : tie.Need-scan-f-requires
 scan-requires c κs =
-    let a = c.before.before.before.before.before.before.args in
+    let a = c.args in
     let s = a.s.now in
-    let n = c.before.before.head.given.0.0 in
-    let answer = sym (ap reading c.before.before.head.given.1) ∙ c.before.before.before.before.head_at.ensures in
+    let n = c.in-Ring.n in
+    let answer = sym (ap reading c.in-Ring.is) ∙ c.head_at-head.ensures in
     let h = head_good s a.at a.room n answer in
     h.there
 
-enum-known-f : tie.Need-enum-known-f
+enum-known-f : tie.Need-enum_known-f
 enum-known-f c = search rules
 
-returns-2 : tie.Need-returns-2
+returns-2 : tie.Need-returns-in-At
 returns-2 c =
-    let a = c.before.before.before.before.before.before.before.before.before.before.args in
+    let a = c.args in
     let s = a.s.now in
-    let n = c.before.before.before.before.before.before.head.given.0.0 in
-    let answer = sym (ap reading c.before.before.before.before.before.before.head.given.1) ∙ c.before.before.before.before.before.before.before.before.head_at.ensures in
+    let n = c.in-Ring.n in
+    let answer = sym (ap reading c.in-Ring.is) ∙ c.head_at-head.ensures in
     let h = head_good s a.at a.room n answer in
-    scan_refused s a.at a.room n answer _ _ (sym (ap faulty c.before.f.given.1) ∙ c.before.before.before.scan.ensures)
+    scan_refused s a.at a.room n answer _ _ (sym (ap faulty c.in-At.is) ∙ c.scan-f.ensures)
 
-enum-told-2 : tie.Need-enum-told-2
+enum-told-2 : tie.Need-enum_told-in_default-f
 enum-told-2 c = search rules
 
-add-last : tie.Need-overflow-add-last
+add-last : tie.Need-overflow_add-last
 add-last c = search rules
 
-mul-last : tie.Need-overflow-mul-last
+mul-last : tie.Need-overflow_mul-last
 mul-last c =
-    let a = c.before.before.before.before.before.before.before.before.before.args in
+    let a = c.args in
     let s = a.s.now in
-    let n = c.before.before.before.before.before.head.given.0.0 in
-    let answer = sym (ap reading c.before.before.before.before.before.head.given.1) ∙ c.before.before.before.before.before.before.before.head_at.ensures in
+    let n = c.in-Ring.n in
+    let answer = sym (ap reading c.in-Ring.is) ∙ c.head_at-head.ensures in
     let h = head_good s a.at a.room n answer in
     omega arith
 
-add-last-2 : tie.Need-overflow-add-last-2
+add-last-2 : tie.Need-overflow_add-last-2
 add-last-2 c =
-    let a = c.before.before.before.before.before.before.before.before.before.args in
+    let a = c.args in
     let s = a.s.now in
-    let n = c.before.before.before.before.before.head.given.0.0 in
-    let answer = sym (ap reading c.before.before.before.before.before.head.given.1) ∙ c.before.before.before.before.before.before.before.head_at.ensures in
+    let n = c.in-Ring.n in
+    let answer = sym (ap reading c.in-Ring.is) ∙ c.head_at-head.ensures in
     let h = head_good s a.at a.room n answer in
-    let fine = sym (ap faulty c.enum-told2.given.1) ∙ c.before.before.scan.ensures in
+    let fine = sym (ap faulty c.enum_told-in_default-f-1.given.1) ∙ c.scan-f.ensures in
     let there = coordinates_there (2 * (n + 1)) (order_at s a.at) s (a.at + 13) h.there fine in
     omega arith
 
-add-same-position : tie.Need-overflow-add-same-position
+add-same-position : tie.Need-overflow_add-at-2
 add-same-position c = search rules
 
-same-position-requires : tie.Need-same-position-requires
+same-position-requires : tie.Need-same_position-requires
 same-position-requires c κs =
-    let a = c.before.before.before.before.before.before.before.before.before.args in
+    let a = c.args in
     let s = a.s.now in
-    let n = c.before.before.before.before.before.head.given.0.0 in
-    let answer = sym (ap reading c.before.before.before.before.before.head.given.1) ∙ c.before.before.before.before.before.before.before.head_at.ensures in
+    let n = c.in-Ring.n in
+    let answer = sym (ap reading c.in-Ring.is) ∙ c.head_at-head.ensures in
     let h = head_good s a.at a.room n answer in
-    let fine = sym (ap faulty c.enum-told2.given.1) ∙ c.before.before.scan.ensures in
+    let fine = sym (ap faulty c.enum_told-in_default-f-1.given.1) ∙ c.scan-f.ensures in
     let there = coordinates_there (2 * (n + 1)) (order_at s a.at) s (a.at + 13) h.there fine in
     omega arith
 
 refused-requires : tie.Need-refused-requires
 refused-requires c κs = search rules
 
-returns-3 : tie.Need-returns-3
+returns-3 : tie.Need-returns-then-not-same_position
 returns-3 c =
-    let a = c.before.before.before.before.before.before.before.before.before.before.before.before.args in
+    let a = c.args in
     let s = a.s.now in
-    let n = c.before.before.before.before.before.before.before.before.head.given.0.0 in
-    let answer = sym (ap reading c.before.before.before.before.before.before.before.before.head.given.1) ∙ c.before.before.before.before.before.before.before.before.before.before.head_at.ensures in
+    let n = c.in-Ring.n in
+    let answer = sym (ap reading c.in-Ring.is) ∙ c.head_at-head.ensures in
     let h = head_good s a.at a.room n answer in
-    let fine = sym (ap faulty c.before.before.before.enum-told2.given.1) ∙ c.before.before.before.before.before.scan.ensures in
+    let fine = sym (ap faulty c.enum_told-in_default-f-1.given.1) ∙ c.scan-f.ensures in
     let there = coordinates_there (2 * (n + 1)) (order_at s a.at) s (a.at + 13) h.there fine in
-    left_open s a.at a.room n answer fine c.before.before.same-position.ensures (not-true c.before.before.same-position.result c.before.if1.true) c.refused.ensures
+    left_open s a.at a.room n answer fine c.same_position.ensures (not-true c.same_position.result c.if-not-same_position.true) c.refused.ensures
 
-returns-4 : tie.Need-returns-4
+returns-4 : tie.Need-returns
 returns-4 c =
-    let a = c.before.before.before.before.before.before.before.before.before.before.before.args in
+    let a = c.args in
     let s = a.s.now in
-    let n = c.before.before.before.before.before.before.before.head.given.0.0 in
-    let answer = sym (ap reading c.before.before.before.before.before.before.before.head.given.1) ∙ c.before.before.before.before.before.before.before.before.before.head_at.ensures in
+    let n = c.in-Ring.n in
+    let answer = sym (ap reading c.in-Ring.is) ∙ c.head_at-head.ensures in
     let h = head_good s a.at a.room n answer in
-    let fine = sym (ap faulty c.before.before.enum-told2.given.1) ∙ c.before.before.before.before.scan.ensures in
+    let fine = sym (ap faulty c.enum_told-in_default-f-1.given.1) ∙ c.scan-f.ensures in
     let there = coordinates_there (2 * (n + 1)) (order_at s a.at) s (a.at + 13) h.there fine in
-    closed s a.at a.room n answer fine c.before.same-position.ensures (not-false c.before.same-position.result c.if1.false)
+    closed s a.at a.room n answer fine c.same_position.ensures (not-false c.same_position.result c.if-not-same_position.false)
 
-pub polygon-at-spec : {M : Type 1} → statement M
-polygon-at-spec =
+pub polygon_at_spec : {M : Type 1} → statement M
+polygon_at_spec =
     tie.close
     (tie.spec
     head-at-requires

@@ -5,10 +5,10 @@ use Rattle.shape.specs.Coordinates.{coordinate, grid_of, grid_at}
 use Rattle.shape.proofs.reader.same_position.Statement.{statement}
 use Rattle.shape.proofs.reader.same_position.Tie as tie
 
-position-at-requires : tie.Need-position-at-requires
+position-at-requires : tie.Need-position_at-p-requires
 position-at-requires c κs = search rules
 
-position-at-requires-2 : tie.Need-position-at-requires-2
+position-at-requires-2 : tie.Need-position_at-q-requires
 position-at-requires-2 c κs = search rules
 
 grid-requires : tie.Need-grid-requires
@@ -25,18 +25,18 @@ grid-requires-4 c κs = search rules
 
 returns : tie.Need-returns
 returns c =
-    let s = c.before.before.before.before.before.before.before.args in
-    let p = c.before.before.before.before.before.position_at in
-    let q = c.before.before.before.before.position-at2 in
+    let s = c.args in
+    let p = c.position_at-p in
+    let q = c.position_at-q in
     let grids : Float → ℕ = λ (x : Float). grid_of (coordinate x) in
-    let a : c.before.before.before.grid.result ≡ grid_at s.order s.s.now s.a = c.before.before.before.grid.ensures ∙ ap grids p.ensures.0 in
-    let b : c.before.before.grid2.result ≡ grid_at s.order s.s.now s.b = c.before.before.grid2.ensures ∙ ap grids q.ensures.0 in
-    let d : c.before.grid3.result ≡ grid_at s.order s.s.now (s.a + 8) = c.before.grid3.ensures ∙ ap grids p.ensures.1 in
-    let e : c.grid4.result ≡ grid_at s.order s.s.now (s.b + 8) = c.grid4.ensures ∙ ap grids q.ensures.1 in
+    let a : c.grid.result ≡ grid_at s.order s.s.now s.a = c.grid.ensures ∙ ap grids p.ensures.0 in
+    let b : c.grid-2.result ≡ grid_at s.order s.s.now s.b = c.grid-2.ensures ∙ ap grids q.ensures.0 in
+    let d : c.grid-3.result ≡ grid_at s.order s.s.now (s.a + 8) = c.grid-3.ensures ∙ ap grids p.ensures.1 in
+    let e : c.grid-4.result ≡ grid_at s.order s.s.now (s.b + 8) = c.grid-4.ensures ∙ ap grids q.ensures.1 in
     rw (a, b, d, e)
 
-pub same-position-spec : {M : Type 1} → statement M
-same-position-spec =
+pub same_position_spec : {M : Type 1} → statement M
+same_position_spec =
     tie.close
     (tie.spec
     position-at-requires

@@ -5,44 +5,41 @@ use Rattle.shape.proofs.Positions.{low_high, low_on, low_end}
 use Rattle.shape.proofs.writer.is_low.Statement.{statement}
 use Rattle.shape.proofs.writer.is_low.Tie as tie
 
-abbrev invariant-loop : tie.invariant-loop
+abbrev invariant-loop : tie.invariant-loop-i
 invariant-loop x i₀ i = (i ≤ length x) × (low (drop i x) ≡ low x)
 
-abbrev decreases-loop : tie.decreases-loop
+abbrev decreases-loop : tie.decreases-loop-i
 decreases-loop x i₀ i = length x - i
 
-loop-holds : tie.Need-loop-init invariant-loop decreases-loop
+loop-holds : tie.Need-loop-i-init invariant-loop decreases-loop
 loop-holds c = (omega arith, refl)
 
-mul-if1 : tie.Need-overflow-mul-if1 invariant-loop decreases-loop
+mul-if1 : tie.Need-offset_bounds-x-i invariant-loop decreases-loop
 mul-if1 c = omega arith
 
-shared-slice-read-if1 : tie.Need-shared-slice-read-if1 invariant-loop decreases-loop
+shared-slice-read-if1 : tie.Need-bounds-x-i invariant-loop decreases-loop
 shared-slice-read-if1 c = omega arith
 
-returns : tie.Need-returns invariant-loop decreases-loop
+returns : tie.Need-returns-then-x-i-gt16383 invariant-loop decreases-loop
 returns c =
-    let l = c.before.before.before in
-    sym (low_high l.before.args.x.now l.loop.i c.before.before.loop-test.true c.if1.true) ∙ l.loop.invariant.1
+    sym (low_high c.args.x.now c.loop-i.i c.loop-i-test.true c.if-x-i-gt16383.true) ∙ c.loop-i.invariant.1
 
-add-i : tie.Need-overflow-add-i invariant-loop decreases-loop
+add-i : tie.Need-overflow_add-i invariant-loop decreases-loop
 add-i c = omega arith
 
-loop-less : tie.Need-loop-smaller invariant-loop decreases-loop
+loop-less : tie.Need-loop-i-smaller invariant-loop decreases-loop
 loop-less c = omega arith
 
-loop-again : tie.Need-loop-preserved invariant-loop decreases-loop
+loop-again : tie.Need-loop-i-preserved invariant-loop decreases-loop
 loop-again c =
-    let l = c.before.before.before in
-    (omega arith, low_on l.before.args.x.now l.loop.i c.before.before.loop-test.true c.if1.false ∙ l.loop.invariant.1)
+    (omega arith, low_on c.args.x.now c.loop-i.i c.loop-i-test.true c.if-x-i-gt16383.false ∙ c.loop-i.invariant.1)
 
-returns-2 : tie.Need-returns-2 invariant-loop decreases-loop
+returns-2 : tie.Need-returns invariant-loop decreases-loop
 returns-2 c =
-    let l = c.before in
-    low_end l.before.args.x.now l.loop.i c.loop-test.false ∙ l.loop.invariant.1
+    low_end c.args.x.now c.loop-i.i c.loop-i-test.false ∙ c.loop-i.invariant.1
 
-pub is-low-spec : {M : Type 1} → statement M
-is-low-spec =
+pub is_low_spec : {M : Type 1} → statement M
+is_low_spec =
     tie.close
     (tie.spec
     invariant-loop
