@@ -20,7 +20,7 @@ parse_spec =
     (λ c.
     let a = c.args in
     let k = c.counts_of-counts in
-    let (p, e) = seen_refusal a.text.now k.new.all k.result k.ensures _ c.enum_told-1.given.1 in
+    let (p, e) = seen_refusal a.text.now k.new.all k.result k.ensures _ c.in_default.is in
     after_refusal a.text.now a.xs.now a.ys.now a.corners.now k.result 40 e (after_none a.text.now a.xs.now a.ys.now a.corners.now p))
     (λ c.
     let k = c.counts_of-counts in
@@ -32,14 +32,14 @@ parse_spec =
     let k = c.counts_of-counts in
     let s = seen_counts a.text.now k.new.all k.result k.ensures _ _ c.in-Counts.is in
     after_refusal a.text.now a.xs.now a.ys.now a.corners.now c.refused.result 4 c.refused.ensures
-    (after_short a.text.now a.xs.now a.ys.now a.corners.now _ _ k.new.all s.0 (not-true _ c.if-not-points-xs.true)))
+    (after_short a.text.now a.xs.now a.ys.now a.corners.now _ _ k.new.all s.0 c.if-not-points-xs.true))
     (λ c. search rules)
     (λ c κs.
     let a = c.args in
     let k = c.counts_of-counts in
     let s = seen_counts a.text.now k.new.all k.result k.ensures _ _ c.in-Counts.is in
-    let r = rooms a.text.now a.xs.now a.ys.now a.corners.now _ _ k.new.all s.0 (not-false _ c.if-not-points-xs.false) in
-    let l = k.auto.1.0 in
+    let r = rooms a.text.now a.xs.now a.ys.now a.corners.now _ _ k.new.all s.0 c.if-not-points-xs.false in
+    let l = k.auto.all in
     (omega arith, r.0, r.1))
     (λ c. search rules)
     (λ c.
@@ -54,8 +54,8 @@ parse_spec =
     let a = c.args in
     let k = c.counts_of-counts in
     let s = seen_counts a.text.now k.new.all k.result k.ensures _ _ c.in-Counts.is in
-    let r = rooms a.text.now a.xs.now a.ys.now a.corners.now _ _ k.new.all s.0 (not-false _ c.if-not-points-xs.false) in
-    let l = k.auto.1.0 in
+    let r = rooms a.text.now a.xs.now a.ys.now a.corners.now _ _ k.new.all s.0 c.if-not-points-xs.false in
+    let l = k.auto.all in
     (omega arith, r.2))
     (λ c. search rules)
     (λ c. search rules)
@@ -66,5 +66,5 @@ parse_spec =
     let p = c.fill_points in
     let q = c.fill_corners in
     let s = seen_counts a.text.now k.new.all k.result k.ensures _ _ c.in-Counts.is in
-    after_office a.text.now a.xs.now a.ys.now a.corners.now _ _ k.new.all s.0 _ _ _ (not-false _ c.if-not-points-xs.false)
-    p.ensures.0 p.ensures.1 q.ensures p.auto.1.1.0 p.auto.1.1.1.0 q.auto.1.1.1.0))
+    after_office a.text.now a.xs.now a.ys.now a.corners.now _ _ k.new.all s.0 _ _ _ c.if-not-points-xs.false
+    p.ensures.0 p.ensures.1 q.ensures p.auto.xs p.auto.ys q.auto.corners))

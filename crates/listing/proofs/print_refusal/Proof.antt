@@ -12,7 +12,6 @@ print_refusal_spec =
     tie.close
     (tie.spec
     (λ c. let a = c.args in print_none 3 (refusal_line a.refusal.number a.refusal.place) a.out.now (let h = c.if-out-lt63.true in omega arith))
-    (λ c. search rules)
     (λ c κs. search rules)
     (λ c. search rules)
     (λ c κs. search rules)
@@ -20,6 +19,6 @@ print_refusal_spec =
     (λ c κs. search rules)
     (λ c. search rules)
     (λ c.
-    let a = c.before.before.before.before.before.before.before.before.before.before.before.before.before.before.before.before.before.before.before.args in
+    let a = c.args in
     print_fields (114 ∷ 101 ∷ 102 ∷ 117 ∷ 115 ∷ 101 ∷ 100 ∷ []) a.refusal.number a.refusal.place [] (omega arith) (omega arith)
-    (put_fields a.refusal.number a.refusal.place [] c.before.before.before.before.before.before.before.before.before.before.before.before.before.before.put-bytes.ensures c.before.before.before.before.before.before.before.before.before.before.put-field.ensures.0 c.before.before.before.before.before.before.put-field2.ensures.0 c.before.before.put-end.ensures)))
+    (put_fields a.refusal.number a.refusal.place [] c.put_bytes-first.ensures c.put_field-second.ensures.0 c.put_field-third.ensures.0 c.put_end.ensures)))

@@ -31,15 +31,14 @@ counts_of_spec =
     (λ c. search rules)
     (λ c.
     let s = c.scan-found in
-    record { is = rw c.refused-in_default.ensures (no_numbers _ c.if-text-gt65536.false (sym (ap (λ (f : Numbers). told f s.new.all) c.enum_told-1.given.1) ∙ s.ensures.0), refl, refl) })
+    record { is = rw c.refused-in_default.ensures (no_numbers _ c.if-text-gt65536.false (sym (ap (λ (f : Numbers). told f s.new.all) c.in_default.is) ∙ s.ensures.0), refl, refl) })
     (λ c κs. search rules)
     (λ c. search rules)
     (λ c.
     let s = c.scan-found in
-    let f = c.found-1.given in
-    let w = within _ _ f.1 s.ensures.1 in
-    let k = s.auto.1.0 in
-    record { is = rw c.refused-then-count-lt2.ensures (too_few _ c.if-text-gt65536.false s.new.all _ (says _ _ _ _ f.1 s.ensures.0) (omega arith) c.if-count-lt2.true, refl, refl) })
+    let w = within _ _ c.in-Count.is s.ensures.1 in
+    let k = s.auto.all in
+    record { is = rw c.refused-then-count-lt2.ensures (too_few _ c.if-text-gt65536.false s.new.all _ (says _ _ _ _ c.in-Count.is s.ensures.0) (omega arith) c.if-count-lt2.true, refl, refl) })
     (λ c. search rules)
     (λ c κs. search rules)
     (λ c. search rules)
@@ -52,23 +51,21 @@ counts_of_spec =
     (λ c. search rules)
     (λ c.
     let s = c.scan-found in
-    let f = c.found-1.given in
-    let w = within _ _ f.1 s.ensures.1 in
-    let k = s.auto.1.0 in
+    let w = within _ _ c.in-Count.is s.ensures.1 in
+    let k = s.auto.all in
     let n = c.wide-points.ensures.0 in
     let t = c.wide-triangles.ensures.0 in
-    record { is = rw c.refused-then-count-points.ensures (wrong_count _ c.if-text-gt65536.false s.new.all _ (says _ _ _ _ f.1 s.ensures.0) (omega arith) c.if-count-lt2.false (λ e. c.if-count-points.true (omega arith)), refl, refl) })
+    record { is = rw c.refused-then-count-points.ensures (wrong_count _ c.if-text-gt65536.false s.new.all _ (says _ _ _ _ c.in-Count.is s.ensures.0) (omega arith) c.if-count-lt2.false (λ e. c.if-count-points.true (omega arith)), refl, refl) })
     (λ c. search rules)
     (λ c.
     let s = c.scan-found in
-    let f = c.found-1.given in
-    let w = within _ _ f.1 s.ensures.1 in
-    let k = s.auto.1.0 in
+    let w = within _ _ c.in-Count.is s.ensures.1 in
+    let k = s.auto.all in
     let n = c.wide-points.ensures.0 in
     let t = c.wide-triangles.ensures.0 in
     record {
       is = (
-        right_count _ c.if-text-gt65536.false s.new.all _ (says _ _ _ _ f.1 s.ensures.0) (omega arith) c.if-count-lt2.false (omega arith)
+        right_count _ c.if-text-gt65536.false s.new.all _ (says _ _ _ _ c.in-Count.is s.ensures.0) (omega arith) c.if-count-lt2.false (omega arith)
             ∙ ap₂ (λ a d. some (laid a d s.new.all)) (sym n) (sym t),
         omega arith,
       );

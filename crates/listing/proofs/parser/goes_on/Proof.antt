@@ -11,6 +11,6 @@ goes_on_spec =
     tie.close
     (tie.spec
     (λ c κs. search rules)
-    (λ c. rw (sym c.is_digit.ensures ∙ not-true _ c.if-not-is_digit.true))
-    (λ c κs. (c.requires, leb-true _ _ (and_iff.0 (sym c.is_digit.ensures ∙ not-false _ c.if-not-is_digit.false)).0))
-    (λ c. rw (sym c.is_digit.ensures ∙ not-false _ c.if-not-is_digit.false, ← c.longer.ensures)))
+    (λ c. rw (sym c.is_digit.ensures ∙ c.if-not-is_digit.true))
+    (λ c κs. (c.requires, leb-true _ _ (and_iff.0 (sym c.is_digit.ensures ∙ c.if-not-is_digit.false)).0))
+    (λ c. rw (sym c.is_digit.ensures ∙ c.if-not-is_digit.false, ← c.longer.ensures)))

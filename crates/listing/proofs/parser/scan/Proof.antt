@@ -43,22 +43,22 @@ scan_spec =
     (λ c κs. c.loop-i.invariant.0.small)
     (λ c. c.loop-i.invariant.1)
     (λ c. (
-      word_fails c.loop-i.invariant.0 c.loop-i-test.true (sym c.is_white.ensures ∙ c.if-is_white.false) (sym c.goes_on.ensures ∙ not-true _ c.if-not-goes_on.true),
+      word_fails c.loop-i.invariant.0 c.loop-i-test.true (sym c.is_white.ensures ∙ c.if-is_white.false) (sym c.goes_on.ensures ∙ c.if-not-goes_on.true),
       tt,
     ))
     (λ c κs.
     let b = get_or c.args.text.now c.loop-i.i 0 in
-    let k = (continues_iff c.loop-i.digits c.loop-i.value b).0 (sym c.goes_on.ensures ∙ not-false _ c.if-not-goes_on.false) in
+    let k = (continues_iff c.loop-i.digits c.loop-i.value b).0 (sym c.goes_on.ensures ∙ c.if-not-goes_on.false) in
     (c.loop-i.invariant.0.small, leb-true 48 b ((and_iff {a = leb 48 b}).0 k.0).0))
     (λ c.
     let b = get_or c.args.text.now c.loop-i.i 0 in
-    let k = (continues_iff c.loop-i.digits c.loop-i.value b).0 (sym c.goes_on.ensures ∙ not-false _ c.if-not-goes_on.false) in
+    let k = (continues_iff c.loop-i.digits c.loop-i.value b).0 (sym c.goes_on.ensures ∙ c.if-not-goes_on.false) in
     omega arith)
     (λ c. omega arith)
     (λ c.
     let l = c.loop-i in
     let b = get_or c.args.text.now l.i 0 in
-    let k = sym c.goes_on.ensures ∙ not-false _ c.if-not-goes_on.false in
+    let k = sym c.goes_on.ensures ∙ c.if-not-goes_on.false in
     rw c.longer-value.ensures (word_goes_on l.invariant.0 c.loop-i-test.true (sym c.is_white.ensures ∙ c.if-is_white.false) k ((continues_iff l.digits l.value b).0 k).2, l.invariant.1))
     (λ c. omega arith)
     (λ c. omega arith)

@@ -16,5 +16,5 @@ put_field_spec =
     (λ c κs. simp length-set (omega arith))
     (λ c.
     let a = c.args in
-    c.put_number.auto.0 ∙ length-set a.out.now a.at 32)
+    c.put_number.auto.out ∙ length-set a.out.now a.at 32)
     (λ c. (put_two put_one c.put_number.ensures.0, omega arith)))

@@ -45,7 +45,7 @@ put_number_spec =
     (λ c κs.
     let l = c.loop-rest in
     rw (spell_text l.digits l.i (l.i - 1) l.rest (omega arith) (omega arith) l.invariant.2 c.loop-rest-test.false ∙ l.invariant.4) (omega (arith, decimal_short c.args.n)))
-    (λ c. c.put_bytes.auto.0)
+    (λ c. c.put_bytes.auto.out)
     (λ c.
     let l = c.loop-rest in
     let n = c.args.n in

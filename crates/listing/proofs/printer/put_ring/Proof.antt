@@ -36,9 +36,9 @@ put_ring_spec =
     let p = c.put_field-to in (
       omega arith,
       omega arith,
-      p.auto.0 ∙ l.invariant.2,
+      p.auto.out ∙ l.invariant.2,
       put_ring_on c.args.ring.now l.i l.invariant.3 _ c.loop-i-test.true c.wide.ensures p.ensures.0,
     ))
     (λ c κs. omega arith)
-    (λ c. c.put_end.auto.0 ∙ c.loop-i.invariant.2)
+    (λ c. c.put_end.auto.out ∙ c.loop-i.invariant.2)
     (λ c. put_ring_end c.args.ring.now c.loop-i.i c.loop-i.invariant.3 c.loop-i-test.false c.put_end.ensures))

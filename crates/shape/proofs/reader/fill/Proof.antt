@@ -50,8 +50,8 @@ loop-again c =
     let e : l.place + 16 + 8 ≡ l.place + 8 + 16 = omega arith in (
       omega arith,
       omega arith,
-      q.auto.1.1.1.0 ∙ l.invariant.2,
-      q.auto.1.1.1.1.0 ∙ l.invariant.3,
+      q.auto.xs ∙ l.invariant.2,
+      q.auto.ys ∙ l.invariant.3,
       fill_step 16 (grid_at a.order s) a.n l.i l.place t l.xs q.new.xs q.ensures.0 ∙ l.invariant.4,
       ap (λ (k : ℕ). sets q.new.ys (l.i + 1) (grids (a.n - (l.i + 1)) a.order s k)) e
           ∙ fill_step 16 (grid_at a.order s) a.n l.i (l.place + 8) t l.ys q.new.ys q.ensures.1 ∙ l.invariant.5,

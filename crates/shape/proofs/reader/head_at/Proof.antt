@@ -26,14 +26,14 @@ enum_told c = search rules
 shared-slice-read-order : tie.Need-bounds-s-at
 shared-slice-read-order c =
     let a = c.args in
-    let h = typed a.s.now a.at 3 22 (sym (ap faulty c.enum_told-1.given.1) ∙ c.type_fault-t.ensures) in
+    let h = typed a.s.now a.at 3 22 (sym (ap faulty c.in_default.is) ∙ c.type_fault-t.ensures) in
     let l : a.at + 5 ≤ length a.s.now = h.1 in
     omega arith
 
 counts-fault-requires : tie.Need-counts_fault-f-requires
 counts-fault-requires c κs =
     let a = c.args in
-    (typed a.s.now a.at 3 22 (sym (ap faulty c.enum_told-1.given.1) ∙ c.type_fault-t.ensures)).1
+    (typed a.s.now a.at 3 22 (sym (ap faulty c.in_default.is) ∙ c.type_fault-t.ensures)).1
 
 enum-known-f : tie.Need-enum_known-f
 enum-known-f c = search rules
@@ -42,7 +42,7 @@ returns-2 : tie.Need-returns-in-At-f
 returns-2 c =
     let a = c.args in
     let s = a.s.now in
-    let g = sym (ap faulty c.enum_told-1.given.1) ∙ c.type_fault-t.ensures in
+    let g = sym (ap faulty c.in_default.is) ∙ c.type_fault-t.ensures in
     let f = sym (ap faulty c.in-At-f.is) ∙ c.counts_fault-f.ensures in
     passes_all (type_asks s a.at 3 22) (count_asks (order_at s a.at) s a.at a.room) tt (length_at s a.at) g
     (refused_other (count_asks (order_at s a.at) s a.at a.room) tt (length_at s a.at) _ _ f refl)
@@ -57,8 +57,8 @@ number4-requires : tie.Need-number4-count-requires
 number4-requires c κs =
     let a = c.args in
     let s = a.s.now in
-    let g = sym (ap faulty c.enum_told-1.given.1) ∙ c.type_fault-t.ensures in
-    let f = sym (ap faulty c.enum_told-in_default-f-1.given.1) ∙ c.counts_fault-f.ensures in
+    let g = sym (ap faulty c.in_default.is) ∙ c.type_fault-t.ensures in
+    let f = sym (ap faulty c.in_default-f.is) ∙ c.counts_fault-f.ensures in
     let h = head_good s a.at a.room (length_at s a.at) (head_passed s a.at a.room g f) in
     omega (arith, h.there)
 
@@ -66,8 +66,8 @@ sub-t13 : tie.Need-overflow_sub-result
 sub-t13 c =
     let a = c.args in
     let s = a.s.now in
-    let g = sym (ap faulty c.enum_told-1.given.1) ∙ c.type_fault-t.ensures in
-    let f = sym (ap faulty c.enum_told-in_default-f-1.given.1) ∙ c.counts_fault-f.ensures in
+    let g = sym (ap faulty c.in_default.is) ∙ c.type_fault-t.ensures in
+    let f = sym (ap faulty c.in_default-f.is) ∙ c.counts_fault-f.ensures in
     let h = head_good s a.at a.room (length_at s a.at) (head_passed s a.at a.room g f) in
     omega (arith, h.least, c.number4-count.ensures.0)
 
@@ -75,8 +75,8 @@ returns-3 : tie.Need-returns
 returns-3 c =
     let a = c.args in
     let s = a.s.now in
-    let g = sym (ap faulty c.enum_told-1.given.1) ∙ c.type_fault-t.ensures in
-    let f = sym (ap faulty c.enum_told-in_default-f-1.given.1) ∙ c.counts_fault-f.ensures in
+    let g = sym (ap faulty c.in_default.is) ∙ c.type_fault-t.ensures in
+    let f = sym (ap faulty c.in_default-f.is) ∙ c.counts_fault-f.ensures in
     ap (λ (k : ℕ). gives (k - 1)) c.number4-count.ensures.0 ∙ head_passed s a.at a.room g f
 
 pub head_at_spec : {M : Type 1} → statement M

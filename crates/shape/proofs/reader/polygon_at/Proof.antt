@@ -22,7 +22,7 @@ returns : tie.Need-returns-in_default
 returns c =
     let a = c.args in
     let s = a.s.now in
-    let told = ap reading c.enum_told-1.given.1 in
+    let told = ap reading c.in_default.is in
     stops_first (head_asks s a.at a.room) _ (length_at s a.at) (length_at s a.at) _ _ (sym told ∙ c.head_at-head.ensures) told
 
 shared-slice-read-order : tie.Need-bounds-s-at
@@ -89,7 +89,7 @@ add-last-2 c =
     let n = c.in-Ring.n in
     let answer = sym (ap reading c.in-Ring.is) ∙ c.head_at-head.ensures in
     let h = head_good s a.at a.room n answer in
-    let fine = sym (ap faulty c.enum_told-in_default-f-1.given.1) ∙ c.scan-f.ensures in
+    let fine = sym (ap faulty c.in_default-f.is) ∙ c.scan-f.ensures in
     let there = coordinates_there (2 * (n + 1)) (order_at s a.at) s (a.at + 13) h.there fine in
     omega arith
 
@@ -103,7 +103,7 @@ same-position-requires c κs =
     let n = c.in-Ring.n in
     let answer = sym (ap reading c.in-Ring.is) ∙ c.head_at-head.ensures in
     let h = head_good s a.at a.room n answer in
-    let fine = sym (ap faulty c.enum_told-in_default-f-1.given.1) ∙ c.scan-f.ensures in
+    let fine = sym (ap faulty c.in_default-f.is) ∙ c.scan-f.ensures in
     let there = coordinates_there (2 * (n + 1)) (order_at s a.at) s (a.at + 13) h.there fine in
     omega arith
 
@@ -117,9 +117,9 @@ returns-3 c =
     let n = c.in-Ring.n in
     let answer = sym (ap reading c.in-Ring.is) ∙ c.head_at-head.ensures in
     let h = head_good s a.at a.room n answer in
-    let fine = sym (ap faulty c.enum_told-in_default-f-1.given.1) ∙ c.scan-f.ensures in
+    let fine = sym (ap faulty c.in_default-f.is) ∙ c.scan-f.ensures in
     let there = coordinates_there (2 * (n + 1)) (order_at s a.at) s (a.at + 13) h.there fine in
-    left_open s a.at a.room n answer fine c.same_position.ensures (not-true c.same_position.result c.if-not-same_position.true) c.refused.ensures
+    left_open s a.at a.room n answer fine c.same_position.ensures c.if-not-same_position.true c.refused.ensures
 
 returns-4 : tie.Need-returns
 returns-4 c =
@@ -128,9 +128,9 @@ returns-4 c =
     let n = c.in-Ring.n in
     let answer = sym (ap reading c.in-Ring.is) ∙ c.head_at-head.ensures in
     let h = head_good s a.at a.room n answer in
-    let fine = sym (ap faulty c.enum_told-in_default-f-1.given.1) ∙ c.scan-f.ensures in
+    let fine = sym (ap faulty c.in_default-f.is) ∙ c.scan-f.ensures in
     let there = coordinates_there (2 * (n + 1)) (order_at s a.at) s (a.at + 13) h.there fine in
-    closed s a.at a.room n answer fine c.same_position.ensures (not-false c.same_position.result c.if-not-same_position.false)
+    closed s a.at a.room n answer fine c.same_position.ensures c.if-not-same_position.false
 
 pub polygon_at_spec : {M : Type 1} → statement M
 polygon_at_spec =

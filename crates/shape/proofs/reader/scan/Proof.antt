@@ -48,7 +48,7 @@ add-place c =
     let a = c.args in
     let l = c.loop-i in
     let s = a.s.now in
-    let fine = sym (ap faulty c.enum_told-in_default-1.given.1) ∙ c.position_fault-f.ensures in
+    let fine = sym (ap faulty c.in_default.is) ∙ c.position_fault-f.ensures in
     let there = coordinates_there 2 a.order s l.place l.invariant.1 fine in
     omega arith
 
@@ -60,7 +60,7 @@ loop-again c =
     let a = c.args in
     let l = c.loop-i in
     let s = a.s.now in
-    let fine = sym (ap faulty c.enum_told-in_default-1.given.1) ∙ c.position_fault-f.ensures in
+    let fine = sym (ap faulty c.in_default.is) ∙ c.position_fault-f.ensures in
     let there = coordinates_there 2 a.order s l.place l.invariant.1 fine in
     (omega arith, omega arith, go_on 16 (coordinates 2 a.order s) a.n l.i l.place c.loop-i-test.true fine ∙ l.invariant.2)
 

@@ -13,16 +13,16 @@ put4-requires : tie.Need-put4-requires
 put4-requires c κs = simp length-set (omega arith)
 
 put4-requires-2 : tie.Need-put4-requires-2
-put4-requires-2 c κs = omega (arith, simp length-set at c.put4.auto.0)
+put4-requires-2 c κs = omega (arith, simp length-set at c.put4.auto.out)
 
 add-put4 : tie.Need-overflow_add-n
 add-put4 c = search rules
 
 put4-requires-3 : tie.Need-put4-requires-3
-put4-requires-3 c κs = omega (arith, simp length-set at c.put4.auto.0)
+put4-requires-3 c κs = omega (arith, simp length-set at c.put4.auto.out)
 
 same_length : tie.Need-shape_of-out
-same_length c = c.put4-3.auto.0 ∙ c.put4-2.auto.0 ∙ (simp length-set at c.put4.auto.0)
+same_length c = c.put4-3.auto.out ∙ c.put4-2.auto.out ∙ (simp length-set at c.put4.auto.out)
 
 returns : tie.Need-returns
 returns c =

@@ -54,7 +54,7 @@ loop-again c =
     let y = c.args.ys.now in (
       omega arith,
       omega arith,
-      q.auto.0 ∙ l.invariant.2,
+      q.auto.out ∙ l.invariant.2,
       ring_step x y l.out q.new.out l.at l.i t (omega arith)
           (placed l.out q.new.out l.at _ _ p.result.x p.result.y p.ensures.0 p.ensures.1 q.ensures)
           ∙ l.invariant.3,
@@ -73,7 +73,7 @@ put-position-requires-2 : tie.Need-put_position-requires-2 invariant-loop decrea
 put-position-requires-2 c κs = (omega arith, (rw c.position_of-2.ensures.0 (number_no_nan _), rw c.position_of-2.ensures.1 (number_no_nan _)))
 
 same_length : tie.Need-shape_of-out invariant-loop decreases-loop
-same_length c = c.put_position-2.auto.0 ∙ c.loop-i.invariant.2
+same_length c = c.put_position-2.auto.out ∙ c.loop-i.invariant.2
 
 returns : tie.Need-returns invariant-loop decreases-loop
 returns c =
