@@ -17,7 +17,7 @@ import sys
 WORD = re.compile(r"(?<![\w'′₀-₉-])[^\W\d][\w'′₀-₉]*(?:-[\w'′₀-₉*≤<+]+)*(?![\w'′₀-₉-])")
 KIT = set("length take drop get_or set sets map append replicate zip add mul sub le lt suc zero eq div mod abs pos neg cond not and or sum count if_ true false none some".split())
 # Names that would fall together with another one, or whose declaration has its parameters before the colon.
-APART = {"on-grid": "unrefused_on_grid", "at-triangle": "at_triangle"}
+APART = {"on-grid": "unrefused_on_grid", "at-triangle": "at_triangle", "low-first": "first_of_low"}
 
 
 def files(*patterns):

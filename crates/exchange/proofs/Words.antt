@@ -54,15 +54,15 @@ all_turned : (t : Bool) (bs : List ℕ) → All bs → All (turned t bs)
 all_turned true bs o = all_aux bs [] o tt
 all_turned false bs o = o
 
-low_first : (bs : List ℕ) → All bs → low_bytes (length bs) (low_first bs) ≡ bs
+first_of_low : (bs : List ℕ) → All bs → low_bytes (length bs) (low_first bs) ≡ bs
 unfolding low_bytes
-low_first [] o = refl
-low_first (b ∷ bs) o =
+first_of_low [] o = refl
+first_of_low (b ∷ bs) o =
     let v : ℕ = low_first bs in
     let h : b < 256 = o.0 in
     let m : (b + 256 * v) % 256 ≡ b = omega arith in
     let d : (b + 256 * v) / 256 ≡ v = omega arith in
-    ap (λ (x : ℕ). x ∷ low_bytes (length bs) ((b + 256 * v) / 256)) m ∙ ap (λ (x : ℕ). b ∷ low_bytes (length bs) x) d ∙ ap (λ (l : List ℕ). b ∷ l) (low_first bs o.1)
+    ap (λ (x : ℕ). x ∷ low_bytes (length bs) ((b + 256 * v) / 256)) m ∙ ap (λ (x : ℕ). b ∷ low_bytes (length bs) x) d ∙ ap (λ (l : List ℕ). b ∷ l) (first_of_low bs o.1)
 
 first-lt : (bs : List ℕ) → All bs → low_first bs < 256 ^ length bs
 first-lt [] o = lit< tt
@@ -106,6 +106,6 @@ module _ (order : ℕ) (s : List ℕ) (at k : ℕ) (o : Octets s) (h : at + k �
 
   pub word_of : (v : ℕ) → number_at k order s at ≡ v → drop at s ≡ in_order order k v ++ drop (at + k) s
   word_of v e =
-      let bytes : low_bytes k v ≡ t = ap (low_bytes k) (sym e) ∙ ap (λ (n : ℕ). low_bytes n (low_first t)) (sym long) ∙ low_first t all in
+      let bytes : low_bytes k v ≡ t = ap (low_bytes k) (sym e) ∙ ap (λ (n : ℕ). low_bytes n (low_first t)) (sym long) ∙ first_of_low t all in
       let same : in_order order k v ≡ w = ap (turned (eqb order 0)) bytes ∙ turned_twice (eqb order 0) w in
       sym (take-append-drop k (drop at s)) ∙ ap (λ (l : List ℕ). l ++ drop k (drop at s)) (sym same) ∙ ap (λ (l : List ℕ). in_order order k v ++ l) (drop-drop k at s)

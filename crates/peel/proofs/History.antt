@@ -122,14 +122,14 @@ module _ {o : Office} (a : Acceptable o) (limit : ℕ) where
   unfolding noted without areas
   turn_leads logs b e r t ih zero = stay r
   turn_leads logs none e r t ih (suc m) = stay r
-  turn_leads {n} {k} logs (some s) f r (l, e, t) ih (suc m) = step (ltb limit (long o s)) refl
+  turn_leads {n} {k} logs (some s) f r t ih (suc m) = step (ltb limit (long o s)) refl
     where
       step : (b : Bool) → ltb limit (long o s) ≡ b → Leads o limit n k (take (suc m) (cond b (s / 3 ∷ logs (peel k s)) []))
       step true x =
           let h = ih s (one_more s r f (ltb-true limit (long o s) x)) m in
           record {
             strips = subst (λ i. Stripped o limit i (without (peel k s) (take m (logs (peel k s))))) (omega arith) h.strips;
-            gone = let x = h.gone in let y = doubled_after a (peelable o a (sound o a (stripped_reached a limit r)) s l e) in omega arith;
+            gone = let x = h.gone in let y = doubled_after a (peelable o a (sound o a (stripped_reached a limit r)) s t.0 t.1) in omega arith;
             there = in_row (let c = a.corners_bound.1 in omega arith) h.there;
           }
         where

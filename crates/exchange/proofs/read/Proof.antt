@@ -14,99 +14,99 @@ use Rattle.exchange.proofs.read.Tie as tie
 lesser-requires : tie.Need-lesser-requires
 lesser-requires c κs = search rules
 
-polygon-at-requires : tie.Need-polygon-at-requires
+polygon-at-requires : tie.Need-polygon_at-found-requires
 polygon-at-requires c κs = search rules
 
-enum-known-found : tie.Need-enum-known-found
+enum-known-found : tie.Need-enum_known-found
 enum-known-found c = search rules
 
-enum_told : tie.Need-enum-told
+enum_told : tie.Need-enum_told-1
 enum_told c = search rules
 
-returns : tie.Need-returns
+returns : tie.Need-returns-in_default
 returns c =
-    let a = c.before.before.before.before.before.before.before.args in
+    let a = c.args in
     let s = a.block.now in
-    let told = ap reading c.enum_told.given.1 in
+    let told = ap reading c.in_default.is in
     let m = min (length a.xs.now) (length a.ys.now) in
-    let answer = found_answer s c.before.before.polygon-at.result c.before.before.before.lesser.result m c.before.before.polygon-at.ensures c.before.before.before.lesser.ensures in (
+    let answer = found_answer s c.polygon_at-found.result c.lesser.result m c.polygon_at-found.ensures c.lesser.ensures in (
       stops_first (polygon_asks s 0 m) _ (length_at s 0) (length_at s 0) _ _ (sym told ∙ answer) told,
       (stays _ _ (xs_at s 0) a.xs.now told, stays _ _ (ys_at s 0) a.ys.now told),
     )
 
-mul-end : tie.Need-overflow-mul-end
+mul-end : tie.Need-overflow_mul-end
 mul-end c =
-    let a = c.before.before.before.before.before.before.before.before.args in
+    let a = c.args in
     let s = a.block.now in
-    let n = c.before.found.given.0.0 in
+    let n = c.in-Ring.n in
     let m = min (length a.xs.now) (length a.ys.now) in
-    let answer = found_ring s c.before.before.before.polygon-at.result c.before.before.before.before.lesser.result m c.before.before.before.polygon-at.ensures c.before.before.before.before.lesser.ensures n c.before.found.given.1 in
+    let answer = found_ring s c.polygon_at-found.result c.lesser.result m c.polygon_at-found.ensures c.lesser.ensures n c.in-Ring.is in
     let r = polygon_good s 0 m n answer in
     omega (arith, r.head.most)
 
-add-end : tie.Need-overflow-add-end
+add-end : tie.Need-overflow_add-end
 add-end c =
-    let a = c.before.before.before.before.before.before.before.before.args in
+    let a = c.args in
     let s = a.block.now in
-    let n = c.before.found.given.0.0 in
+    let n = c.in-Ring.n in
     let m = min (length a.xs.now) (length a.ys.now) in
-    let answer = found_ring s c.before.before.before.polygon-at.result c.before.before.before.before.lesser.result m c.before.before.before.polygon-at.ensures c.before.before.before.before.lesser.ensures n c.before.found.given.1 in
+    let answer = found_ring s c.polygon_at-found.result c.lesser.result m c.polygon_at-found.ensures c.lesser.ensures n c.in-Ring.is in
     let r = polygon_good s 0 m n answer in
     omega (arith, r.head.most)
 
 refused-requires : tie.Need-refused-requires
 refused-requires c κs = search rules
 
-returns-2 : tie.Need-returns-2
+returns-2 : tie.Need-returns-then-end-block
 returns-2 c =
-    let a = c.before.before.before.before.before.before.before.before.before.before.args in
+    let a = c.args in
     let s = a.block.now in
-    let n = c.before.before.before.found.given.0.0 in
+    let n = c.in-Ring.n in
     let m = min (length a.xs.now) (length a.ys.now) in
-    let answer = found_ring s c.before.before.before.before.before.polygon-at.result c.before.before.before.before.before.before.lesser.result m c.before.before.before.before.before.polygon-at.ensures c.before.before.before.before.before.before.lesser.ensures n c.before.before.before.found.given.1 in
+    let answer = found_ring s c.polygon_at-found.result c.lesser.result m c.polygon_at-found.ensures c.lesser.ensures n c.in-Ring.is in
     let r = polygon_good s 0 m n answer in (
-      bytes_left s m n answer c.before.if1.true c.refused.ensures,
+      bytes_left s m n answer c.if-end-block.true c.refused.ensures,
       (stays _ _ (xs_at s 0) a.xs.now c.refused.ensures, stays _ _ (ys_at s 0) a.ys.now c.refused.ensures),
     )
 
-shared-slice-read-fill : tie.Need-shared-slice-read-fill
+shared-slice-read-fill : tie.Need-bounds-block-0
 shared-slice-read-fill c =
-    let a = c.before.before.before.before.before.before.before.before.before.before.args in
+    let a = c.args in
     let s = a.block.now in
-    let n = c.before.before.before.found.given.0.0 in
+    let n = c.in-Ring.n in
     let m = min (length a.xs.now) (length a.ys.now) in
-    let answer = found_ring s c.before.before.before.before.before.polygon-at.result c.before.before.before.before.before.before.lesser.result m c.before.before.before.before.before.polygon-at.ensures c.before.before.before.before.before.before.lesser.ensures n c.before.before.before.found.given.1 in
+    let answer = found_ring s c.polygon_at-found.result c.lesser.result m c.polygon_at-found.ensures c.lesser.ensures n c.in-Ring.is in
     let r = polygon_good s 0 m n answer in
     omega (arith, r.whole)
 
 fill-requires : tie.Need-fill-requires
 fill-requires c κs =
-    let a = c.before.before.before.before.before.before.before.before.before.before.before.before.args in
+    let a = c.args in
     let s = a.block.now in
-    let n = c.before.before.before.before.before.found.given.0.0 in
+    let n = c.in-Ring.n in
     let m = min (length a.xs.now) (length a.ys.now) in
-    let answer = found_ring s c.before.before.before.before.before.before.before.polygon-at.result c.before.before.before.before.before.before.before.before.lesser.result m c.before.before.before.before.before.before.before.polygon-at.ensures c.before.before.before.before.before.before.before.before.lesser.ensures n c.before.before.before.before.before.found.given.1 in
+    let answer = found_ring s c.polygon_at-found.result c.lesser.result m c.polygon_at-found.ensures c.lesser.ensures n c.in-Ring.is in
     let r = polygon_good s 0 m n answer in
     (omega (arith, r.whole), (omega (arith, r.head.fits), omega (arith, r.head.fits)))
 
-same_length : tie.Need-same-length
+same_length : tie.Need-shape_of-xs
 same_length c = search rules
 
-same-length-2 : tie.Need-same-length-2
+same-length-2 : tie.Need-shape_of-ys
 same-length-2 c = search rules
 
-returns-3 : tie.Need-returns-3
+returns-3 : tie.Need-returns
 returns-3 c =
-    let a = c.before.before.before.before.before.before.before.before.before.before.before.before.before.before.before.before.before.args in
+    let a = c.args in
     let s = a.block.now in
-    let n = c.before.before.before.before.before.before.before.before.before.before.found.given.0.0 in
+    let n = c.in-Ring.n in
     let m = min (length a.xs.now) (length a.ys.now) in
-    let answer = found_ring s c.before.before.before.before.before.before.before.before.before.before.before.before.polygon-at.result c.before.before.before.before.before.before.before.before.before.before.before.before.before.lesser.result m c.before.before.before.before.before.before.before.before.before.before.before.before.polygon-at.ensures c.before.before.before.before.before.before.before.before.before.before.before.before.before.lesser.ensures n c.before.before.before.before.before.before.before.before.before.before.found.given.1 in
+    let answer = found_ring s c.polygon_at-found.result c.lesser.result m c.polygon_at-found.ensures c.lesser.ensures n c.in-Ring.is in
     let r = polygon_good s 0 m n answer in (
-      all_read s m n answer c.before.before.before.before.before.before.before.before.if1.false,
+      all_read s m n answer c.if-end-block.false,
       (
-        filled s m n answer 13 a.xs.now _ (omega (arith, r.head.fits)) c.before.before.before.before.fill.ensures.0,
-        filled s m n answer 21 a.ys.now _ (omega (arith, r.head.fits)) c.before.before.before.before.fill.ensures.1,
+        filled s m n answer 13 a.xs.now _ (omega (arith, r.head.fits)) c.fill.ensures.0,
+        filled s m n answer 21 a.ys.now _ (omega (arith, r.head.fits)) c.fill.ensures.1,
       ),
     )
 

@@ -16,52 +16,52 @@ use Rattle.exchange.proofs.read_district.Tie as tie
 lesser-requires : tie.Need-lesser-requires
 lesser-requires c κs = search rules
 
-district-at-requires : tie.Need-district-at-requires
+district-at-requires : tie.Need-district_at-found-requires
 district-at-requires c κs = search rules
 
-enum-known-found : tie.Need-enum-known-found
+enum-known-found : tie.Need-enum_known-found
 enum-known-found c = search rules
 
-enum_told : tie.Need-enum-told
+enum_told : tie.Need-enum_told-1
 enum_told c = search rules
 
-returns : tie.Need-returns
+returns : tie.Need-returns-in_default
 returns c =
-    let a = c.before.before.before.before.before.before.before.before.args in
+    let a = c.args in
     let s = a.block.now in
     let m = min (length a.xs.now) (length a.ys.now) in
-    let told = ap districted c.enum_told.given.1 in (
-      c.before.before.district-at.ensures ∙ ap (district_answer s (length a.lengths.now)) c.before.before.before.lesser.ensures,
+    let told = ap districted c.in_default.is in (
+      c.district_at-found.ensures ∙ ap (district_answer s (length a.lengths.now)) c.lesser.ensures,
       (stays _ _ (district_xs s) a.xs.now told, (stays _ _ (district_ys s) a.ys.now told, stays _ _ (district_lengths s) a.lengths.now told)),
     )
 
-fill-parts-requires : tie.Need-fill-parts-requires
+fill-parts-requires : tie.Need-fill_parts-requires
 fill-parts-requires c κs =
-    let a = c.before.before.before.before.before.before.before.before.before.before.before.before.args in
+    let a = c.args in
     let s = a.block.now in
     let m = min (length a.xs.now) (length a.ys.now) in
-    let n = c.before.before.before.before.found.given.0.0 in
-    let answer = sym (ap districted c.before.before.before.before.found.given.1) ∙ c.before.before.before.before.before.before.district-at.ensures ∙ ap (district_answer s (length a.lengths.now)) c.before.before.before.before.before.before.before.lesser.ensures in
+    let n = c.in-Rings.n in
+    let answer = sym (ap districted c.in-Rings.is) ∙ c.district_at-found.ensures ∙ ap (district_answer s (length a.lengths.now)) c.lesser.ensures in
     (all_fine s (length a.lengths.now) m n answer, few_places s (length a.lengths.now) m n answer)
 
-same_length : tie.Need-same-length
+same_length : tie.Need-shape_of-xs
 same_length c = search rules
 
-same-length-2 : tie.Need-same-length-2
+same-length-2 : tie.Need-shape_of-ys
 same-length-2 c = search rules
 
-same-length-3 : tie.Need-same-length-3
+same-length-3 : tie.Need-shape_of-lengths
 same-length-3 c = search rules
 
-returns-2 : tie.Need-returns-2
+returns-2 : tie.Need-returns
 returns-2 c =
-    let a = c.before.before.before.before.before.before.before.before.before.before.before.before.before.before.before.before.before.before.before.args in
+    let a = c.args in
     let s = a.block.now in
     let m = min (length a.xs.now) (length a.ys.now) in
-    let n = c.before.before.before.before.before.before.before.before.before.before.before.found.given.0.0 in
-    let answer = sym (ap districted c.before.before.before.before.before.before.before.before.before.before.before.found.given.1) ∙ c.before.before.before.before.before.before.before.before.before.before.before.before.before.district-at.ensures ∙ ap (district_answer s (length a.lengths.now)) c.before.before.before.before.before.before.before.before.before.before.before.before.before.before.lesser.ensures in
+    let n = c.in-Rings.n in
+    let answer = sym (ap districted c.in-Rings.is) ∙ c.district_at-found.ensures ∙ ap (district_answer s (length a.lengths.now)) c.lesser.ensures in
     let is = count_is_read s (length a.lengths.now) m n answer in
-    let q = c.before.before.before.before.before.before.fill-parts in
+    let q = c.fill_parts in
     let fits : total (part_lengths s n 9) ≤ m = total_fits s n 9 m (all_fine s (length a.lengths.now) m n answer) in (
       answer,
       (
@@ -73,8 +73,8 @@ returns-2 c =
       ),
     )
 
-pub read-district-spec : {M : Type 1} → statement M
-read-district-spec =
+pub read_district_spec : {M : Type 1} → statement M
+read_district_spec =
     tie.close
     (tie.spec
     lesser-requires

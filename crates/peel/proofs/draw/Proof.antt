@@ -4,28 +4,21 @@ use Rattle.peel.proofs.Answering.{draw_not, draw_may, draw_done, mates_handed}
 use Rattle.peel.proofs.draw.Statement.{statement}
 use Rattle.peel.proofs.draw.Tie as tie
 
-returns : tie.Need-returns
+returns : tie.Need-returns-in-Refused
 returns c =
-    let b = c.before.before.before in
-    let s = b.before.before.before.before.before.before.before.before.before in
-    draw_not s.args.xs.now s.args.ys.now s.args.corners.now s.args.limit s.args.kept.now s.args.rim.now s.args.ring.now b.before.before.draw_room.ensures b.check-mates.ensures.0 _ c.before.checked.given.1
+    draw_not c.args.xs.now c.args.ys.now c.args.corners.now c.args.limit c.args.kept.now c.args.rim.now c.args.ring.now c.draw_room-room.ensures c.check_mates-checked.ensures.0 _ c.in-Refused.is
 
-draw-accepted-requires : tie.Need-draw-accepted-requires
+draw-accepted-requires : tie.Need-draw_accepted-tally-requires
 draw-accepted-requires c κs =
-    let b = c.before.before.before.before.before.before.before in
-    let s = b.before.before.before.before.before.before.before.before.before in
-    let f = c.before.before.before.before.before.checked2.given.1 in
-    (draw_may s.args.xs.now s.args.ys.now s.args.corners.now 0 s.args.kept.now s.args.rim.now s.args.ring.now b.before.before.draw_room.ensures b.check-mates.ensures.0 _ f, mates_handed _ _ _ f b.check-mates.ensures.1)
+    let f = c.in-Accepted.is in
+    (draw_may c.args.xs.now c.args.ys.now c.args.corners.now 0 c.args.kept.now c.args.rim.now c.args.ring.now c.draw_room-room.ensures c.check_mates-checked.ensures.0 _ f, mates_handed _ _ _ f c.check_mates-checked.ensures.1)
 
-returns-2 : tie.Need-returns-2
+returns-2 : tie.Need-returns-in-Accepted
 returns-2 c =
-    let d = c.before.before.before.before.before.before in
-    let b = d.before.before.before.before.before.before.before.before in
-    let s = b.before.before.before.before.before.before.before.before.before in
-    draw_done s.args.xs.now s.args.ys.now s.args.corners.now s.args.limit s.args.kept.now s.args.rim.now s.args.ring.now b.before.before.draw_room.ensures b.check-mates.ensures.0 _ d.before.before.before.before.before.before.checked2.given.1 _ d.draw_accepted.ensures
+    draw_done c.args.xs.now c.args.ys.now c.args.corners.now c.args.limit c.args.kept.now c.args.rim.now c.args.ring.now c.draw_room-room.ensures c.check_mates-checked.ensures.0 _ c.in-Accepted.is _ c.draw_accepted-tally.ensures
 
-pub draw-spec : {M : Type 1} → statement M
-draw-spec =
+pub draw_spec : {M : Type 1} → statement M
+draw_spec =
     tie.close
     (tie.spec
     (λ c κs. search rules)

@@ -4,29 +4,22 @@ use Rattle.peel.proofs.Answering.{list_not, list_may, list_done, mates_handed}
 use Rattle.peel.proofs.list.Statement.{statement}
 use Rattle.peel.proofs.list.Tie as tie
 
-returns : tie.Need-returns
+returns : tie.Need-returns-in-Refused
 returns c =
-    let b = c.before.before.before in
-    let s = b.before.before.before.before.before.before.before.before.before.before.before.before in
-    list_not s.args.xs.now s.args.ys.now s.args.corners.now s.args.kept.now s.args.rim.now s.args.ring.now s.args.least.now s.args.peeled.now s.args.area.now b.before.before.list_room.ensures b.check-mates.ensures.0 _ c.before.checked.given.1
+    list_not c.args.xs.now c.args.ys.now c.args.corners.now c.args.kept.now c.args.rim.now c.args.ring.now c.args.least.now c.args.peeled.now c.args.area.now c.list_room-room.ensures c.check_mates-checked.ensures.0 _ c.in-Refused.is
 
-list-accepted-requires : tie.Need-list-accepted-requires
+list-accepted-requires : tie.Need-list_accepted-count-requires
 list-accepted-requires c κs =
-    let b = c.before.before.before.before.before.before.before.before.before.before in
-    let s = b.before.before.before.before.before.before.before.before.before.before.before.before in
-    let f = c.before.before.before.before.before.before.before.before.checked2.given.1 in
-    let (h, r) = list_may s.args.xs.now s.args.ys.now s.args.corners.now s.args.kept.now s.args.rim.now s.args.ring.now s.args.least.now s.args.peeled.now s.args.area.now b.before.before.list_room.ensures b.check-mates.ensures.0 _ f in
-    (h, (r, mates_handed _ _ _ f b.check-mates.ensures.1))
+    let f = c.in-Accepted.is in
+    let (h, r) = list_may c.args.xs.now c.args.ys.now c.args.corners.now c.args.kept.now c.args.rim.now c.args.ring.now c.args.least.now c.args.peeled.now c.args.area.now c.list_room-room.ensures c.check_mates-checked.ensures.0 _ f in
+    (h, (r, mates_handed _ _ _ f c.check_mates-checked.ensures.1))
 
-returns-2 : tie.Need-returns-2
+returns-2 : tie.Need-returns-in-Accepted
 returns-2 c =
-    let d = c.before.before.before.before.before.before.before.before.before.before.before.before in
-    let b = d.before.before.before.before.before.before.before.before.before.before.before in
-    let s = b.before.before.before.before.before.before.before.before.before.before.before.before in
-    list_done s.args.xs.now s.args.ys.now s.args.corners.now s.args.kept.now s.args.rim.now s.args.ring.now s.args.least.now s.args.peeled.now s.args.area.now b.before.before.list_room.ensures b.check-mates.ensures.0 _ d.before.before.before.before.before.before.before.before.before.checked2.given.1 _ d.list_accepted.ensures.0 d.list_accepted.ensures.1
+    list_done c.args.xs.now c.args.ys.now c.args.corners.now c.args.kept.now c.args.rim.now c.args.ring.now c.args.least.now c.args.peeled.now c.args.area.now c.list_room-room.ensures c.check_mates-checked.ensures.0 _ c.in-Accepted.is _ c.list_accepted-count.ensures.0 c.list_accepted-count.ensures.1
 
-pub list-spec : {M : Type 1} → statement M
-list-spec =
+pub list_spec : {M : Type 1} → statement M
+list_spec =
     tie.close
     (tie.spec
     (λ c κs. search rules)
@@ -35,10 +28,10 @@ list-spec =
     returns
     (λ c. search rules)
     list-accepted-requires
-    (λ c. c.before.before.before.before.before.before.before.before.before.before.before.before.list_accepted.auto.1.1.1.1.1.0)
-    (λ c. c.before.before.before.before.before.before.before.before.before.before.before.before.list_accepted.auto.1.1.1.1.1.1.0)
-    (λ c. c.before.before.before.before.before.before.before.before.before.before.before.before.list_accepted.auto.1.1.1.1.1.1.1.0)
-    (λ c. c.before.before.before.before.before.before.before.before.before.before.before.before.list_accepted.auto.1.1.1.1.1.1.1.1.0)
-    (λ c. c.before.before.before.before.before.before.before.before.before.before.before.before.list_accepted.auto.1.1.1.1.1.1.1.1.1.0)
-    (λ c. c.before.before.before.before.before.before.before.before.before.before.before.before.list_accepted.auto.1.1.1.1.1.1.1.1.1.1.0)
+    (λ c. c.list_accepted-count.auto.kept)
+    (λ c. c.list_accepted-count.auto.rim)
+    (λ c. c.list_accepted-count.auto.ring)
+    (λ c. c.list_accepted-count.auto.least)
+    (λ c. c.list_accepted-count.auto.peeled)
+    (λ c. c.list_accepted-count.auto.area)
     returns-2)

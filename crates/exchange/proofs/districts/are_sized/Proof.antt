@@ -1,4 +1,6 @@
 -- `exchange::districts::are_sized` meets its contract. The loop's invariant: what is left are rings' lengths just where the whole is.
+use mathlib.Core.Bool.{not}
+use mathlib.Core.Path.{ap}
 use Prim.Native.Nat.{◌-◌, ◌≤◌}
 use mathlib.Core.Path.{◌≡◌, refl, sym, ◌∙◌}
 use native.Mathlib.Omega.{arith}
@@ -9,47 +11,44 @@ use Rattle.exchange.proofs.DistrictWriting.{rings_stop, rings_on, rings_end}
 use Rattle.exchange.proofs.districts.are_sized.Statement.{statement}
 use Rattle.exchange.proofs.districts.are_sized.Tie as tie
 
-abbrev invariant-loop : tie.invariant-loop
+abbrev invariant-loop : tie.invariant-loop-i
 invariant-loop lengths i₀ i = (i ≤ length lengths) × (rings (drop i lengths) ≡ rings lengths)
 
-abbrev decreases-loop : tie.decreases-loop
+abbrev decreases-loop : tie.decreases-loop-i
 decreases-loop lengths i₀ i = length lengths - i
 
-loop-holds : tie.Need-loop-init invariant-loop decreases-loop
+loop-holds : tie.Need-loop-i-init invariant-loop decreases-loop
 loop-holds c = (omega arith, refl)
 
-mul-is-ring : tie.Need-overflow-mul-is-ring invariant-loop decreases-loop
+mul-is-ring : tie.Need-offset_bounds-lengths-i invariant-loop decreases-loop
 mul-is-ring c = omega arith
 
-shared-slice-read-is-ring : tie.Need-shared-slice-read-is-ring invariant-loop decreases-loop
+shared-slice-read-is-ring : tie.Need-bounds-lengths-i invariant-loop decreases-loop
 shared-slice-read-is-ring c = omega arith
 
-is-ring-requires : tie.Need-is-ring-requires invariant-loop decreases-loop
+is-ring-requires : tie.Need-is_ring-requires invariant-loop decreases-loop
 is-ring-requires c κs = search rules
 
-returns : tie.Need-returns invariant-loop decreases-loop
+returns : tie.Need-returns-then-not-is_ring invariant-loop decreases-loop
 returns c =
-    let l = c.before.before.before.before in
-    sym (rings_stop l.before.before.args.lengths.now l.loop.i c.before.before.before.loop-test.true c.before.is-ring.ensures c.if1.true) ∙ l.loop.invariant.1
+    sym (rings_stop c.args.lengths.now c.loop-i.i c.loop-i-test.true c.is_ring.ensures (ap not c.if-not-is_ring.true)) ∙ c.loop-i.invariant.1
 
-add-i : tie.Need-overflow-add-i invariant-loop decreases-loop
+add-i : tie.Need-overflow_add-i invariant-loop decreases-loop
 add-i c = omega arith
 
-loop-less : tie.Need-loop-smaller invariant-loop decreases-loop
+loop-less : tie.Need-loop-i-smaller invariant-loop decreases-loop
 loop-less c = omega arith
 
-loop-again : tie.Need-loop-preserved invariant-loop decreases-loop
+loop-again : tie.Need-loop-i-preserved invariant-loop decreases-loop
 loop-again c =
-    let l = c.before.before.before.before in
-    (omega arith, rings_on l.before.before.args.lengths.now l.loop.i c.before.before.before.loop-test.true c.before.is-ring.ensures c.if1.false ∙ l.loop.invariant.1)
+    (omega arith, rings_on c.args.lengths.now c.loop-i.i c.loop-i-test.true c.is_ring.ensures (ap not c.if-not-is_ring.false) ∙ c.loop-i.invariant.1)
 
-returns-2 : tie.Need-returns-2 invariant-loop decreases-loop
+returns-2 : tie.Need-returns invariant-loop decreases-loop
 returns-2 c =
-    let l = c.before in
-    rings_end l.before.before.args.lengths.now l.loop.i c.loop-test.false ∙ l.loop.invariant.1
+    rings_end c.args.lengths.now c.loop-i.i c.loop-i-test.false ∙ c.loop-i.invariant.1
 
-pub are-sized-spec : {M : Type 1} → statement M
-are-sized-spec =
+pub are_sized_spec : {M : Type 1} → statement M
+are_sized_spec =
     tie.close
     (tie.spec
     invariant-loop

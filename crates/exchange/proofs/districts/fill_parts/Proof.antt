@@ -15,7 +15,7 @@ use Rattle.exchange.proofs.Parts.{past, Fine, part_fine, part_ring, rest_fine, x
 use Rattle.exchange.proofs.districts.fill_parts.Statement.{statement}
 use Rattle.exchange.proofs.districts.fill_parts.Tie as tie
 
-abbrev invariant-loop : tie.invariant-loop
+abbrev invariant-loop : tie.invariant-loop-i
 invariant-loop s at k xs₀ ys₀ lengths₀ i₀ place₀ from₀ xs ys lengths i place from =
     (i ≤ k) × (from ≤ min (length xs₀) (length ys₀)) × (length xs ≡ length xs₀) × (length ys ≡ length ys₀) × (length lengths ≡ length lengths₀)
     × Fine s (k - i) place (min (length xs₀) (length ys₀) - from)
@@ -23,12 +23,12 @@ invariant-loop s at k xs₀ ys₀ lengths₀ i₀ place₀ from₀ xs ys lengths
     × (sets ys from (parts_ys s (k - i) place) ≡ sets ys₀ 0 (parts_ys s k at))
     × (sets lengths i (part_lengths s (k - i) place) ≡ sets lengths₀ 0 (part_lengths s k at))
 
-abbrev decreases-loop : tie.decreases-loop
+abbrev decreases-loop : tie.decreases-loop-i
 decreases-loop s at k xs₀ ys₀ lengths₀ i₀ place₀ from₀ xs ys lengths i place from = k - i
 
-loop-holds : tie.Need-loop-init invariant-loop decreases-loop
+loop-holds : tie.Need-loop-i-init invariant-loop decreases-loop
 loop-holds c =
-    let a = c.before.before.before.before.args in
+    let a = c.args in
     let s = a.s.now in
     let m = min (length a.xs.now) (length a.ys.now) in
     let e : a.k - 0 ≡ a.k = omega arith in
@@ -38,130 +38,130 @@ loop-holds c =
       refl,
       refl,
       refl,
-      subst (λ (k : ℕ). Fine s k a.at (m - 0)) (sym e) (subst (Fine s a.k a.at) (sym f) c.before.before.before.before.requires.0),
+      subst (λ (k : ℕ). Fine s k a.at (m - 0)) (sym e) (subst (Fine s a.k a.at) (sym f) c.requires.0),
       ap (λ (k : ℕ). sets a.xs.now 0 (parts_xs s k a.at)) e,
       ap (λ (k : ℕ). sets a.ys.now 0 (parts_ys s k a.at)) e,
       ap (λ (k : ℕ). sets a.lengths.now 0 (part_lengths s k a.at)) e,
     )
 
-mul-fill-part : tie.Need-overflow-mul-fill-part invariant-loop decreases-loop
+mul-fill-part : tie.Need-offset_bounds-xs-from invariant-loop decreases-loop
 mul-fill-part c =
-    let l = c.before.loop in
-    omega (arith, l.invariant.1, c.before.before.before.before.before.before.well-formed.1.1.1.0)
+    let l = c.loop-i in
+    omega (arith, l.invariant.1, c.well_formed.1.1.1.0)
 
-sub-fill-part : tie.Need-overflow-sub-fill-part invariant-loop decreases-loop
+sub-fill-part : tie.Need-slice_bounds-fill_part-count invariant-loop decreases-loop
 sub-fill-part c =
-    let l = c.before.loop in
+    let l = c.loop-i in
     omega (arith, l.invariant.1, l.invariant.2)
 
-part-fill-part-start : tie.Need-slice-bounds-fill-part-start invariant-loop decreases-loop
+part-fill-part-start : tie.Need-slice_bounds-fill_part-start invariant-loop decreases-loop
 part-fill-part-start c =
-    let l = c.before.loop in
+    let l = c.loop-i in
     omega (arith, l.invariant.1, l.invariant.2)
 
-part-fill-part-end : tie.Need-slice-bounds-fill-part-end invariant-loop decreases-loop
+part-fill-part-end : tie.Need-slice_bounds-fill_part-end invariant-loop decreases-loop
 part-fill-part-end c = le_refl _
 
-mul-fill-part-2 : tie.Need-overflow-mul-fill-part-2 invariant-loop decreases-loop
+mul-fill-part-2 : tie.Need-offset_bounds-ys-from invariant-loop decreases-loop
 mul-fill-part-2 c =
-    let l = c.before.before.loop in
-    omega (arith, l.invariant.1, c.before.before.before.before.before.before.before.well-formed.1.1.1.1.0)
+    let l = c.loop-i in
+    omega (arith, l.invariant.1, c.well_formed.1.1.1.1.0)
 
-sub-fill-part-2 : tie.Need-overflow-sub-fill-part-2 invariant-loop decreases-loop
+sub-fill-part-2 : tie.Need-slice_bounds-fill_part-count-in-loop-i invariant-loop decreases-loop
 sub-fill-part-2 c =
-    let l = c.before.before.loop in
+    let l = c.loop-i in
     omega (arith, l.invariant.1, l.invariant.3)
 
-part-fill-part-start-2 : tie.Need-slice-bounds-fill-part-start-2 invariant-loop decreases-loop
+part-fill-part-start-2 : tie.Need-slice_bounds-fill_part-start-in-loop-i invariant-loop decreases-loop
 part-fill-part-start-2 c =
-    let l = c.before.before.loop in
+    let l = c.loop-i in
     omega (arith, l.invariant.1, l.invariant.3)
 
-part-fill-part-end-2 : tie.Need-slice-bounds-fill-part-end-2 invariant-loop decreases-loop
+part-fill-part-end-2 : tie.Need-slice_bounds-fill_part-end-in-loop-i invariant-loop decreases-loop
 part-fill-part-end-2 c = le_refl _
 
-fill-part-requires : tie.Need-fill-part-requires invariant-loop decreases-loop
+fill-part-requires : tie.Need-fill_part-n-requires invariant-loop decreases-loop
 fill-part-requires c κs =
-    let a = c.before.before.before.before.before.before.before.before.args in
-    let l = c.before.before.before.loop in
+    let a = c.args in
+    let l = c.loop-i in
     let s = a.s.now in
     let m = min (length a.xs.now) (length a.ys.now) in
     let e : m - l.from ≡ min (length (mid_of l.from (length l.xs - l.from) l.xs)) (length (mid_of l.from (length l.ys - l.from) l.ys)) =
     omega (arith, mid_len l.from (length l.xs) l.xs (le_refl _), mid_len l.from (length l.ys) l.ys (le_refl _), l.invariant.2, l.invariant.3) in
-    part_fine s a.k l.i l.place (m - l.from) c.before.before.loop-test.true l.invariant.5 ∙ ap (λ (room : ℕ). asked (polygon_asks s l.place room) (length_at s l.place)) e
+    part_fine s a.k l.i l.place (m - l.from) c.loop-i-test.true l.invariant.5 ∙ ap (λ (room : ℕ). asked (polygon_asks s l.place room) (length_at s l.place)) e
 
-cast-lengths : tie.Need-overflow-cast-lengths invariant-loop decreases-loop
+cast-lengths : tie.Need-overflow_cast-lengths invariant-loop decreases-loop
 cast-lengths c =
-    let a = c.before.before.before.before.before.before.before.before.before.before.before.before.before.args in
-    let l = c.before.before.before.before.before.before.before.before.loop in
+    let a = c.args in
+    let l = c.loop-i in
     let s = a.s.now in
     let m = min (length a.xs.now) (length a.ys.now) in
-    let q = c.before.before.before.before.fill-part in
-    let r = part_ring s a.k l.i l.place (m - l.from) c.before.before.before.before.before.before.before.loop-test.true l.invariant.5 q.result q.ensures.0 in
+    let q = c.fill_part-n in
+    let r = part_ring s a.k l.i l.place (m - l.from) c.loop-i-test.true l.invariant.5 q.result q.ensures.0 in
     omega (arith, r.head.most)
 
-mul-lengths : tie.Need-overflow-mul-lengths invariant-loop decreases-loop
-mul-lengths c = omega (arith, c.before.before.before.before.before.before.before.loop-test.true, c.before.before.before.before.before.before.before.before.before.before.before.before.before.requires.1, c.before.before.before.before.before.before.before.before.before.before.before.before.before.well-formed.1.1.1.1.1.0)
+mul-lengths : tie.Need-offset_bounds-lengths-i invariant-loop decreases-loop
+mul-lengths c = omega (arith, c.loop-i-test.true, c.requires.1, c.well_formed.1.1.1.1.1.0)
 
-slice-write-lengths : tie.Need-slice-write-lengths invariant-loop decreases-loop
-slice-write-lengths c = omega (arith, c.before.before.before.before.before.before.before.loop-test.true, c.before.before.before.before.before.before.before.before.before.before.before.before.before.requires.1, c.before.before.before.before.before.before.before.before.loop.invariant.4)
+slice-write-lengths : tie.Need-bounds-lengths-i invariant-loop decreases-loop
+slice-write-lengths c = omega (arith, c.loop-i-test.true, c.requires.1, c.loop-i.invariant.4)
 
-add-i : tie.Need-overflow-add-i invariant-loop decreases-loop
-add-i c = omega (arith, c.before.before.before.before.before.before.before.loop-test.true, c.before.before.before.before.before.before.before.before.before.before.before.before.before.ranges.k)
+add-i : tie.Need-overflow_add-i invariant-loop decreases-loop
+add-i c = omega (arith, c.loop-i-test.true, c.ranges.k)
 
-mul-place : tie.Need-overflow-mul-place invariant-loop decreases-loop
+mul-place : tie.Need-overflow_mul-place invariant-loop decreases-loop
 mul-place c =
-    let a = c.before.before.before.before.before.before.before.before.before.before.before.before.before.args in
-    let l = c.before.before.before.before.before.before.before.before.loop in
+    let a = c.args in
+    let l = c.loop-i in
     let s = a.s.now in
     let m = min (length a.xs.now) (length a.ys.now) in
-    let q = c.before.before.before.before.fill-part in
-    let r = part_ring s a.k l.i l.place (m - l.from) c.before.before.before.before.before.before.before.loop-test.true l.invariant.5 q.result q.ensures.0 in
+    let q = c.fill_part-n in
+    let r = part_ring s a.k l.i l.place (m - l.from) c.loop-i-test.true l.invariant.5 q.result q.ensures.0 in
     omega (arith, r.head.most)
 
-add-place : tie.Need-overflow-add-place invariant-loop decreases-loop
+add-place : tie.Need-overflow_add-place invariant-loop decreases-loop
 add-place c =
-    let a = c.before.before.before.before.before.before.before.before.before.before.before.before.before.args in
-    let l = c.before.before.before.before.before.before.before.before.loop in
+    let a = c.args in
+    let l = c.loop-i in
     let s = a.s.now in
     let m = min (length a.xs.now) (length a.ys.now) in
-    let q = c.before.before.before.before.fill-part in
-    let r = part_ring s a.k l.i l.place (m - l.from) c.before.before.before.before.before.before.before.loop-test.true l.invariant.5 q.result q.ensures.0 in
+    let q = c.fill_part-n in
+    let r = part_ring s a.k l.i l.place (m - l.from) c.loop-i-test.true l.invariant.5 q.result q.ensures.0 in
     omega (arith, r.head.most)
 
-add-place-2 : tie.Need-overflow-add-place-2 invariant-loop decreases-loop
+add-place-2 : tie.Need-overflow_add-place-in-loop-i invariant-loop decreases-loop
 add-place-2 c =
-    let a = c.before.before.before.before.before.before.before.before.before.before.before.before.before.args in
-    let l = c.before.before.before.before.before.before.before.before.loop in
+    let a = c.args in
+    let l = c.loop-i in
     let s = a.s.now in
     let m = min (length a.xs.now) (length a.ys.now) in
-    let q = c.before.before.before.before.fill-part in
-    let r = part_ring s a.k l.i l.place (m - l.from) c.before.before.before.before.before.before.before.loop-test.true l.invariant.5 q.result q.ensures.0 in
-    omega (arith, r.whole, c.before.before.before.before.before.before.before.before.before.before.before.before.before.well-formed.0)
+    let q = c.fill_part-n in
+    let r = part_ring s a.k l.i l.place (m - l.from) c.loop-i-test.true l.invariant.5 q.result q.ensures.0 in
+    omega (arith, r.whole, c.well_formed.0)
 
-add-from : tie.Need-overflow-add-from invariant-loop decreases-loop
+add-from : tie.Need-overflow_add-from invariant-loop decreases-loop
 add-from c =
-    let a = c.before.before.before.before.before.before.before.before.before.before.before.before.before.args in
-    let l = c.before.before.before.before.before.before.before.before.loop in
+    let a = c.args in
+    let l = c.loop-i in
     let s = a.s.now in
     let m = min (length a.xs.now) (length a.ys.now) in
-    let q = c.before.before.before.before.fill-part in
-    let r = part_ring s a.k l.i l.place (m - l.from) c.before.before.before.before.before.before.before.loop-test.true l.invariant.5 q.result q.ensures.0 in
-    omega (arith, r.head.fits, l.invariant.1, c.before.before.before.before.before.before.before.before.before.before.before.before.before.well-formed.1.1.1.0)
+    let q = c.fill_part-n in
+    let r = part_ring s a.k l.i l.place (m - l.from) c.loop-i-test.true l.invariant.5 q.result q.ensures.0 in
+    omega (arith, r.head.fits, l.invariant.1, c.well_formed.1.1.1.0)
 
-loop-less : tie.Need-loop-smaller invariant-loop decreases-loop
-loop-less c = omega (arith, c.before.before.before.before.before.before.before.loop-test.true)
+loop-less : tie.Need-loop-i-smaller invariant-loop decreases-loop
+loop-less c = omega (arith, c.loop-i-test.true)
 
-loop-again : tie.Need-loop-preserved invariant-loop decreases-loop
+loop-again : tie.Need-loop-i-preserved invariant-loop decreases-loop
 loop-again c =
-    let a = c.before.before.before.before.before.before.before.before.before.before.before.before.before.args in
-    let l = c.before.before.before.before.before.before.before.before.loop in
+    let a = c.args in
+    let l = c.loop-i in
     let s = a.s.now in
     let m = min (length a.xs.now) (length a.ys.now) in
-    let q = c.before.before.before.before.fill-part in
-    let r = part_ring s a.k l.i l.place (m - l.from) c.before.before.before.before.before.before.before.loop-test.true l.invariant.5 q.result q.ensures.0 in
+    let q = c.fill_part-n in
+    let r = part_ring s a.k l.i l.place (m - l.from) c.loop-i-test.true l.invariant.5 q.result q.ensures.0 in
     let fits : l.from + q.result ≤ m = omega (arith, r.head.fits, l.invariant.1) in
-    let t = c.before.before.before.before.before.before.before.loop-test.true in
+    let t = c.loop-i-test.true in
     let x = ap (put_mid l.from (length l.xs - l.from) l.xs) q.ensures.1.0 ∙ put_rest l.from l.xs (xs_at s l.place) (omega (arith, l.invariant.1, l.invariant.2)) in
     let y = ap (put_mid l.from (length l.ys - l.from) l.ys) q.ensures.1.1 ∙ put_rest l.from l.ys (ys_at s l.place) (omega (arith, l.invariant.1, l.invariant.3)) in
     let less : m - l.from - q.result ≡ m - (l.from + q.result) = sym (sub-add-eq m l.from q.result) in (
@@ -176,29 +176,29 @@ loop-again c =
       lengths_step s a.k l.i l.place (m - l.from) t l.invariant.5 q.result q.ensures.0 l.lengths _ refl ∙ l.invariant.8,
     )
 
-same_length : tie.Need-same-length invariant-loop decreases-loop
-same_length c = c.before.loop.invariant.2
+same_length : tie.Need-shape_of-xs invariant-loop decreases-loop
+same_length c = c.loop-i.invariant.2
 
-same-length-2 : tie.Need-same-length-2 invariant-loop decreases-loop
-same-length-2 c = c.before.loop.invariant.3
+same-length-2 : tie.Need-shape_of-ys invariant-loop decreases-loop
+same-length-2 c = c.loop-i.invariant.3
 
-same-length-3 : tie.Need-same-length-3 invariant-loop decreases-loop
-same-length-3 c = c.before.loop.invariant.4
+same-length-3 : tie.Need-shape_of-lengths invariant-loop decreases-loop
+same-length-3 c = c.loop-i.invariant.4
 
 returns : tie.Need-returns invariant-loop decreases-loop
 returns c =
-    let a = c.before.before.before.before.before.before.args in
-    let l = c.before.loop in
+    let a = c.args in
+    let l = c.loop-i in
     let s = a.s.now in (
-      put_none (parts_xs s) (no_xs s) a.k l.i l.place l.from c.loop-test.false l.xs ∙ l.invariant.6,
+      put_none (parts_xs s) (no_xs s) a.k l.i l.place l.from c.loop-i-test.false l.xs ∙ l.invariant.6,
       (
-        put_none (parts_ys s) (no_ys s) a.k l.i l.place l.from c.loop-test.false l.ys ∙ l.invariant.7,
-        put_none (part_lengths s) (no_lengths s) a.k l.i l.place l.i c.loop-test.false l.lengths ∙ l.invariant.8,
+        put_none (parts_ys s) (no_ys s) a.k l.i l.place l.from c.loop-i-test.false l.ys ∙ l.invariant.7,
+        put_none (part_lengths s) (no_lengths s) a.k l.i l.place l.i c.loop-i-test.false l.lengths ∙ l.invariant.8,
       ),
     )
 
-pub fill-parts-spec : {M : Type 1} → statement M
-fill-parts-spec =
+pub fill_parts_spec : {M : Type 1} → statement M
+fill_parts_spec =
     tie.close
     (tie.spec
     invariant-loop

@@ -5,33 +5,32 @@ use Rattle.exchange.proofs.DistrictWriting.{put_district}
 use Rattle.exchange.proofs.districts.put_district.Statement.{statement}
 use Rattle.exchange.proofs.districts.put_district.Tie as tie
 
-put-district-head-requires : tie.Need-put-district-head-requires
+put-district-head-requires : tie.Need-put_district_head-requires
 put-district-head-requires c κs = search rules
 
-sub-put-polygons : tie.Need-overflow-sub-put-polygons
+sub-put-polygons : tie.Need-slice_bounds-put_polygons-count
 sub-put-polygons c = search rules
 
-part-put-polygons-start : tie.Need-slice-bounds-put-polygons-start
+part-put-polygons-start : tie.Need-slice_bounds-put_polygons-start
 part-put-polygons-start c = search rules
 
-part-put-polygons-end : tie.Need-slice-bounds-put-polygons-end
+part-put-polygons-end : tie.Need-slice_bounds-put_polygons-end
 part-put-polygons-end c = search rules
 
-put-polygons-requires : tie.Need-put-polygons-requires
+put-polygons-requires : tie.Need-put_polygons-requires
 put-polygons-requires c κs = search rules
 
-same_length : tie.Need-same-length
+same_length : tie.Need-shape_of-out
 same_length c = search rules
 
 returns : tie.Need-returns
 returns c =
-    let s = c.before.before.before.before.before.before.before.before.before.before.before.before in
-    let h = c.before.before.before.before.before.before.put-district-head in
-    let p = c.before.before.put-polygons in
-    put_district s.args.lengths.now s.args.xs.now s.args.ys.now s.args.out.now h.new.0 p.new.1.1.1.0 (omega (arith, s.requires)) h.ensures p.ensures
+    let h = c.put_district_head in
+    let p = c.put_polygons in
+    put_district c.args.lengths.now c.args.xs.now c.args.ys.now c.args.out.now h.new.out p.new.out (omega (arith, c.requires)) h.ensures p.ensures
 
-pub put-district-spec : {M : Type 1} → statement M
-put-district-spec =
+pub put_district_spec : {M : Type 1} → statement M
+put_district_spec =
     tie.close
     (tie.spec
     put-district-head-requires

@@ -11,45 +11,45 @@ use Rattle.shape.proofs.Shapes.{typed}
 use Rattle.exchange.proofs.points.point_fault.Statement.{statement}
 use Rattle.exchange.proofs.points.point_fault.Tie as tie
 
-type-fault-requires : tie.Need-type-fault-requires
+type-fault-requires : tie.Need-type_fault-f-requires
 type-fault-requires c κs = search rules
 
-enum_told : tie.Need-enum-told
+enum_told : tie.Need-enum_told-1
 enum_told c = search rules
 
-returns : tie.Need-returns
+returns : tie.Need-returns-in-At
 returns c =
-    let a = c.before.before.before.before.args in
-    let told = ap faulty c.enum_told.given.1 in
-    stops_first (type_asks a.s.now a.at 1 33) _ (tt {0}) (tt {0}) _ _ (sym told ∙ c.before.before.type_fault.ensures) told
+    let a = c.args in
+    let told = ap faulty c.in-At.is in
+    stops_first (type_asks a.s.now a.at 1 33) _ (tt {0}) (tt {0}) _ _ (sym told ∙ c.type_fault-f.ensures) told
 
-enum-told-2 : tie.Need-enum-told-2
+enum-told-2 : tie.Need-enum_told-in_default
 enum-told-2 c = search rules
 
-shared-slice-read-order : tie.Need-shared-slice-read-order
+shared-slice-read-order : tie.Need-bounds-s-at
 shared-slice-read-order c =
-    let a = c.before.before.before.before.before.args in
-    let h = typed a.s.now a.at 1 33 (sym (ap faulty c.before.enum-told2.given.1) ∙ c.before.before.before.type_fault.ensures) in
+    let a = c.args in
+    let h = typed a.s.now a.at 1 33 (sym (ap faulty c.in_default.is) ∙ c.type_fault-f.ensures) in
     let l : a.at + 5 ≤ length a.s.now = h.1 in
     omega arith
 
-add-position-fault : tie.Need-overflow-add-position-fault
+add-position-fault : tie.Need-overflow_add-at
 add-position-fault c = search rules
 
-position-fault-requires : tie.Need-position-fault-requires
+position-fault-requires : tie.Need-position_fault-requires
 position-fault-requires c κs =
-    let a = c.before.before.before.before.before.args in
-    (typed a.s.now a.at 1 33 (sym (ap faulty c.before.enum-told2.given.1) ∙ c.before.before.before.type_fault.ensures)).1
+    let a = c.args in
+    (typed a.s.now a.at 1 33 (sym (ap faulty c.in_default.is) ∙ c.type_fault-f.ensures)).1
 
-returns-2 : tie.Need-returns-2
+returns-2 : tie.Need-returns
 returns-2 c =
-    let a = c.before.before.before.before.before.before.args in
+    let a = c.args in
     let s = a.s.now in
-    let g = sym (ap faulty c.before.before.enum-told2.given.1) ∙ c.before.before.before.before.type_fault.ensures in
-    passes_all (type_asks s a.at 1 33) (coordinates 2 (order_at s a.at) s (a.at + 5)) (tt {0}) (tt {0}) g c.position-fault.ensures
+    let g = sym (ap faulty c.in_default.is) ∙ c.type_fault-f.ensures in
+    passes_all (type_asks s a.at 1 33) (coordinates 2 (order_at s a.at) s (a.at + 5)) (tt {0}) (tt {0}) g c.position_fault.ensures
 
-pub point-fault-spec : {M : Type 1} → statement M
-point-fault-spec =
+pub point_fault_spec : {M : Type 1} → statement M
+point_fault_spec =
     tie.close
     (tie.spec
     type-fault-requires

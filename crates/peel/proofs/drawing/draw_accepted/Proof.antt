@@ -7,18 +7,16 @@ use Rattle.peel.proofs.drawing.draw_accepted.Tie as tie
 
 returns : tie.Need-returns
 returns c =
-    let d = c.before.before.before.before.before.before.before.before.before.before in
-    let b = d.before.before.before.before.before.before.before in
-    let a = b.before.before.before.before.before.before.before.before.before.args in
-    drawn_all (office a.xs.now a.ys.now a.corners.now) _ a.kept.now a.rim.now a.ring.now b.begin.ensures d.peel-all.ensures c.before.before.lay-ring.ensures
+    let a = c.args in
+    drawn_all (office a.xs.now a.ys.now a.corners.now) _ a.kept.now a.rim.now a.ring.now c.begin-begun.ensures c.peel_all-tally.ensures c.lay_ring.ensures
 
-pub draw-accepted-spec : {M : Type 1} → statement M
-draw-accepted-spec =
+pub draw_accepted_spec : {M : Type 1} → statement M
+draw_accepted_spec =
     tie.close
     (tie.spec
     (λ c κs. search rules)
     (λ c κs. search rules)
-    (λ c κs. (c.before.before.before.before.before.before.before.peel-all.ensures.state, c.before.before.before.before.before.before.before.before.before.before.before.before.before.before.before.before.before.before.before.before.before.before.before.requires.0.4))
+    (λ c κs. (c.peel_all-tally.ensures.state, c.requires.0.4))
     (λ c. search rules)
     (λ c. search rules)
     (λ c. search rules)

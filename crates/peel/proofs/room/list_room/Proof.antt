@@ -7,12 +7,11 @@ use lib.Dec.{leb}
 use Rattle.peel.proofs.room.list_room.Statement.{statement}
 use Rattle.peel.proofs.room.list_room.Tie as tie
 
-pub list-room-spec : {M : Type 1} → statement M
-list-room-spec =
+pub list_room_spec : {M : Type 1} → statement M
+list_room_spec =
     tie.close
     (tie.spec
     (λ c κs. search rules)
     (λ c κs. search rules)
     (λ c.
-    let s = c.before.before in
-    ap₂ (λ (marks : Bool) (most : ℕ). marks && leb most s.args.least && leb most s.args.peeled && leb most s.args.area) c.before.draw_room.ensures c.less_two.ensures))
+    ap₂ (λ (marks : Bool) (most : ℕ). marks && leb most c.args.least && leb most c.args.peeled && leb most c.args.area) c.draw_room-marks.ensures c.less_two-most.ensures))
