@@ -10,31 +10,31 @@ use Rattle.host.proofs.Decoding.{step_within, step_on}
 use Rattle.host.proofs.blocks.decode.Statement.{statement}
 use Rattle.host.proofs.blocks.decode.Tie as tie
 
-abbrev invariant-loop : tie.invariant-loop
+abbrev invariant-loop : tie.invariant-loop-i
 invariant-loop block from step n list₀ i₀ at₀ list i at = Filling (λ k. pair block (from + step * k)) n (length list₀) list₀ list i × (at ≡ from + step * i)
 
-abbrev decreases-loop : tie.decreases-loop
+abbrev decreases-loop : tie.decreases-loop-i
 decreases-loop block from step n list₀ i₀ at₀ list i at = n - i
 
-pub decode-spec : {M : Type 1} → statement M
-decode-spec =
+pub decode_spec : {M : Type 1} → statement M
+decode_spec =
     tie.close
     (tie.spec
     invariant-loop
     decreases-loop
     (λ c. (search laying, omega arith))
-    (λ c. let l = c.before.before.loop in let a = c.before.before.before.before.before.args in let w = step_within a.step l.i a.n c.before.loop-test.true in omega arith)
-    (λ c. let l = c.before.before.loop in let a = c.before.before.before.before.before.args in let w = step_within a.step l.i a.n c.before.loop-test.true in omega arith)
-    (λ c. let l = c.before.before.before.loop in let a = c.before.before.before.before.before.before.args in let w = step_within a.step l.i a.n c.before.before.loop-test.true in omega arith)
+    (λ c. let l = c.loop-i in let a = c.args in let w = step_within a.step l.i a.n c.loop-i-test.true in omega arith)
+    (λ c. let l = c.loop-i in let a = c.args in let w = step_within a.step l.i a.n c.loop-i-test.true in omega arith)
+    (λ c. let l = c.loop-i in let a = c.args in let w = step_within a.step l.i a.n c.loop-i-test.true in omega arith)
     (λ c κs. search rules)
     (λ c. search laying)
     (λ c. search laying)
     (λ c. omega arith)
-    (λ c. let l = c.before.before.before.before.loop in let a = c.before.before.before.before.before.before.before.args in let w = step_within a.step l.i a.n c.before.before.before.loop-test.true in omega arith)
+    (λ c. let l = c.loop-i in let a = c.args in let w = step_within a.step l.i a.n c.loop-i-test.true in omega arith)
     (λ c. omega arith)
     (λ c.
-    let l = c.before.before.before.before.loop in
-    let a = c.before.before.before.before.before.before.before.args in
-    (filling_one l.invariant.0 c.before.before.before.loop-test.true (c.joined.ensures ∙ ap (pair a.block.now) l.invariant.1), ap (λ n. n + a.step) l.invariant.1 ∙ step_on a.from a.step l.i))
+    let l = c.loop-i in
+    let a = c.args in
+    (filling_one l.invariant.0 c.loop-i-test.true (c.joined.ensures ∙ ap (pair a.block.now) l.invariant.1), ap (λ n. n + a.step) l.invariant.1 ∙ step_on a.from a.step l.i))
     (λ c. search laying)
     (λ c. search laying))

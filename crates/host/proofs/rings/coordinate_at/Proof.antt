@@ -5,17 +5,17 @@ use lib.ListN.{get_or-eq_default}
 use Rattle.host.proofs.rings.coordinate_at.Statement.{statement}
 use Rattle.host.proofs.rings.coordinate_at.Tie as tie
 
-mul-result : tie.Need-overflow-mul-result
+mul-result : tie.Need-offset_bounds-list-place
 mul-result c = search rules
 
-shared-slice-read-result : tie.Need-shared-slice-read-result
+shared-slice-read-result : tie.Need-bounds-list-place
 shared-slice-read-result c = search rules
 
-returns : tie.Need-returns
+returns : tie.Need-returns-then-place-list
 returns c = search rules
 
-returns-2 : tie.Need-returns-2
-returns-2 c = sym (get_or-eq_default c.before.args.list.now 0 c.if1.false)
+returns-2 : tie.Need-returns
+returns-2 c = sym (get_or-eq_default c.args.list.now 0 c.if-place-list.false)
 
-pub coordinate-at-spec : {M : Type 1} → statement M
-coordinate-at-spec = tie.close (tie.spec mul-result shared-slice-read-result returns returns-2)
+pub coordinate_at_spec : {M : Type 1} → statement M
+coordinate_at_spec = tie.close (tie.spec mul-result shared-slice-read-result returns returns-2)

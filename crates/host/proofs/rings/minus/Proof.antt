@@ -11,5 +11,5 @@ use Rattle.host.proofs.rings.minus.Tie as tie
 abbrev all : tie.Start → Num w64
 all c = apart 255 0 c.args.number (omega arith) (omega arith) tt
 
-pub minus-spec : {M : Type 1} → statement M
-minus-spec = tie.close (tie.spec (λ c. search rules) (λ c. search (rules, (all c).seen)) (λ c. (all c).reads ∙ +ℤ_idl (neg_ℤ (pos c.args.number))))
+pub minus_spec : {M : Type 1} → statement M
+minus_spec = tie.close (tie.spec (λ c. search rules) (λ c. search (rules, (all c).seen)) (λ c. (all c).reads ∙ +ℤ_idl (neg_ℤ (pos c.args.number))))
