@@ -14,8 +14,7 @@ fn wide(number: u16) -> u64 {
     number as u64
 }
 
-#[unsafe(no_mangle)]
-pub extern "C" fn port_check(xs: &[u16], ys: &[u16], corners: &[u16], answer: &mut [u64; 4]) {
+pub fn port_check(xs: &[u16], ys: &[u16], corners: &[u16], answer: &mut [u64; 4]) {
     match sheet::check(xs, ys, corners) {
         Checked::Accepted(rim) => {
             *answer = [0, rim as u64, 0, 0];
@@ -26,8 +25,7 @@ pub extern "C" fn port_check(xs: &[u16], ys: &[u16], corners: &[u16], answer: &m
     }
 }
 
-#[unsafe(no_mangle)]
-pub extern "C" fn port_draw(
+pub fn port_draw(
     xs: &[u16],
     ys: &[u16],
     corners: &[u16],
@@ -48,8 +46,7 @@ pub extern "C" fn port_draw(
 }
 
 // The length of the used part, and its number at a place where it has that place.
-#[unsafe(no_mangle)]
-pub extern "C" fn port_outline(ring: &[u16], claimed: usize, place: usize, answer: &mut [u64; 4]) {
+pub fn port_outline(ring: &[u16], claimed: usize, place: usize, answer: &mut [u64; 4]) {
     let part = peel::outline(
         ring,
         Tally {
@@ -64,8 +61,7 @@ pub extern "C" fn port_outline(ring: &[u16], claimed: usize, place: usize, answe
     }
 }
 
-#[unsafe(no_mangle)]
-pub extern "C" fn port_list(
+pub fn port_list(
     xs: &[u16],
     ys: &[u16],
     corners: &[u16],
@@ -87,8 +83,7 @@ pub extern "C" fn port_list(
     }
 }
 
-#[unsafe(no_mangle)]
-pub extern "C" fn port_write(xs: &[u16], ys: &[u16], out: &mut [u8], answer: &mut [u64; 4]) {
+pub fn port_write(xs: &[u16], ys: &[u16], out: &mut [u8], answer: &mut [u64; 4]) {
     match exchange::write(xs, ys, out) {
         Written::Bytes(bytes) => {
             *answer = [0, bytes as u64, 0, 0];
@@ -99,8 +94,7 @@ pub extern "C" fn port_write(xs: &[u16], ys: &[u16], out: &mut [u8], answer: &mu
     }
 }
 
-#[unsafe(no_mangle)]
-pub extern "C" fn port_read(block: &[u8], xs: &mut [u16], ys: &mut [u16], answer: &mut [u64; 4]) {
+pub fn port_read(block: &[u8], xs: &mut [u16], ys: &mut [u16], answer: &mut [u64; 4]) {
     match exchange::read(block, xs, ys) {
         Reading::Ring(ring) => {
             *answer = [0, ring as u64, 0, 0];
@@ -134,24 +128,11 @@ fn judged(found: Judged, answer: &mut [u64; 4], value: &mut f64) {
     }
 }
 
-#[unsafe(no_mangle)]
-pub extern "C" fn port_judge(
-    block: &[u8],
-    order: u8,
-    place: usize,
-    answer: &mut [u64; 4],
-    value: &mut f64,
-) {
+pub fn port_judge(block: &[u8], order: u8, place: usize, answer: &mut [u64; 4], value: &mut f64) {
     judged(exchange::judge(block, order, place), answer, value);
 }
 
-#[unsafe(no_mangle)]
-pub extern "C" fn port_read_points(
-    block: &[u8],
-    xs: &mut [u16],
-    ys: &mut [u16],
-    answer: &mut [u64; 4],
-) {
+pub fn port_read_points(block: &[u8], xs: &mut [u16], ys: &mut [u16], answer: &mut [u64; 4]) {
     match exchange::read_points(block, xs, ys) {
         Surveyed::Points(points) => {
             *answer = [0, points as u64, 0, 0];
@@ -162,13 +143,11 @@ pub extern "C" fn port_read_points(
     }
 }
 
-#[unsafe(no_mangle)]
-pub extern "C" fn port_sent(block: &[u8], place: usize, answer: &mut [u64; 4], value: &mut f64) {
+pub fn port_sent(block: &[u8], place: usize, answer: &mut [u64; 4], value: &mut f64) {
     judged(exchange::sent(block, place), answer, value);
 }
 
-#[unsafe(no_mangle)]
-pub extern "C" fn port_write_district(
+pub fn port_write_district(
     xs: &[u16],
     ys: &[u16],
     lengths: &[u16],
@@ -185,8 +164,7 @@ pub extern "C" fn port_write_district(
     }
 }
 
-#[unsafe(no_mangle)]
-pub extern "C" fn port_read_district(
+pub fn port_read_district(
     block: &[u8],
     xs: &mut [u16],
     ys: &mut [u16],
