@@ -8,38 +8,37 @@ ghost use Rattle.std.specs.Prelude.{◌≤◌, length};
 
 use exchange::{Coordinate, District, Judged, Reading};
 use sheet::Refusal;
+use std::io;
 
-fn show_position(x: u16, y: u16) {
-    io::write_all(1, b" ");
-    io::print_decimal(1, x as u64);
-    io::write_all(1, b",");
-    io::print_decimal(1, y as u64);
+fn show_position(rt: &impl Print, x: u16, y: u16) -> io::Result<()> {
+    print!(rt; " {x},{y}")
 }
 
 // The positions from one place up to another.
-fn show_positions(xs: &[u16], ys: &[u16], from: usize, to: usize)
+fn show_positions(rt: &impl Print, xs: &[u16], ys: &[u16], from: usize, to: usize) -> io::Result<()>
     requires { length xs.now ≤ length ys.now }
 {
     let mut i = 0;
     while i < xs.len() {
         if from <= i {
             if i < to {
-                show_position(xs[i], ys[i]);
+                show_position(rt, xs[i], ys[i])?;
             }
         }
         i += 1;
     }
+    Ok(())
 }
 
-fn show_ring(xs: &[u16], ys: &[u16], from: usize, to: usize)
+fn show_ring(rt: &impl Print, xs: &[u16], ys: &[u16], from: usize, to: usize) -> io::Result<()>
     requires { length xs.now ≤ length ys.now }
 {
     if from < to {
-        io::write_all(1, b" ring of ");
-        io::print_decimal(1, (to - from) as u64);
-        io::write_all(1, b":");
-        show_positions(xs, ys, from, to);
+        let count = to - from;
+        print!(rt; " ring of {count}:")?;
+        show_positions(rt, xs, ys, from, to)?;
     }
+    Ok(())
 }
 
 fn wide(x: u16) -> usize
@@ -62,151 +61,163 @@ fn length_of(lengths: &[u16; 8], i: usize, n: usize) -> usize
 }
 
 // The first n rings, one after another in the lists.
-fn show_rings(xs: &[u16], ys: &[u16], lengths: &[u16; 8], n: usize)
+fn show_rings(
+    rt: &impl Print,
+    xs: &[u16],
+    ys: &[u16],
+    lengths: &[u16; 8],
+    n: usize,
+) -> io::Result<()>
     requires { length xs.now ≤ length ys.now }
 {
     let mut i = 0;
     let mut from = 0;
     while i < 8 {
         let to = from + length_of(lengths, i, n);
-        show_ring(xs, ys, from, to);
+        show_ring(rt, xs, ys, from, to)?;
         i += 1;
         from = to;
     }
+    Ok(())
 }
 
-fn show_value(x: f64) {
+fn show_value(rt: &impl Print, x: f64) -> io::Result<()> {
     if x < f64::from_bits(0x7ff0_0000_0000_0000) {
-        io::write_all(1, b", off the grid: ");
-        io::print_hex(1, f64::to_bits(x), 16);
+        let pattern = f64::to_bits(x);
+        print!(rt; ", off the grid: {pattern:016x}")?;
     }
+    Ok(())
 }
 
 // What the coordinate at a place is, in the block's byte order.
-fn show_coordinate(block: &[u8], place: usize) {
+fn show_coordinate(rt: &impl Print, block: &[u8], place: usize) -> io::Result<()> {
     if 0 < block.len() {
         let judged = exchange::judge(block, block[0], place);
         if let Judged::As(c) = judged {
             match c {
                 Coordinate::Grid(_) => {}
-                Coordinate::OffGrid(x) => show_value(x),
-                Coordinate::NotFinite => {
-                    io::write_all(1, b", not finite");
-                }
+                Coordinate::OffGrid(x) => show_value(rt, x)?,
+                Coordinate::NotFinite => print!(rt; ", not finite")?,
             }
         }
     }
+    Ok(())
 }
 
-fn show_refusal(r: Refusal) {
-    io::write_all(1, b": refused ");
-    io::print_decimal(1, r.number as u64);
-    io::write_all(1, b" ");
-    io::print_decimal(1, r.place as u64);
+fn show_refusal(rt: &impl Print, r: Refusal) -> io::Result<()> {
+    let number = r.number;
+    let place = r.place;
+    print!(rt; ": refused {number} {place}")
 }
 
-fn show(name: &[u8], block: &[u8]) {
+fn show(rt: &impl Print, name: &str, block: &[u8]) -> io::Result<()> {
     let mut xs = [0u16; 16];
     let mut ys = [0u16; 16];
-    io::write_all(1, name);
+    print!(rt; "{name}")?;
     let answer = exchange::read(block, &mut xs, &mut ys);
     match answer {
         Reading::Ring(n) => {
-            io::write_all(1, b":");
-            show_ring(&xs, &ys, 0, n);
+            print!(rt; ":")?;
+            show_ring(rt, &xs, &ys, 0, n)?;
         }
         Reading::Refused(r) => {
             let number = r.number;
             let place = r.place;
-            show_refusal(r);
+            show_refusal(rt, r)?;
             if 25 <= number {
                 if number <= 26 {
-                    show_coordinate(block, place);
+                    show_coordinate(rt, block, place)?;
                 }
             }
         }
     }
-    io::write_all(1, b"\n");
+    println!(rt; "")
 }
 
-fn show_district(name: &[u8], block: &[u8]) {
+fn show_district(rt: &impl Print, name: &str, block: &[u8]) -> io::Result<()> {
     let mut xs = [0u16; 16];
     let mut ys = [0u16; 16];
     let mut lengths = [0u16; 8];
-    io::write_all(1, name);
+    print!(rt; "{name}")?;
     let answer = exchange::read_district(block, &mut xs, &mut ys, &mut lengths);
     match answer {
         District::Rings(n) => {
-            io::write_all(1, b": district of ");
-            io::print_decimal(1, n as u64);
-            io::write_all(1, b":");
-            show_rings(&xs, &ys, &lengths, n);
+            print!(rt; ": district of {n}:")?;
+            show_rings(rt, &xs, &ys, &lengths, n)?;
         }
         District::Refused(r) => {
-            show_refusal(r);
+            show_refusal(rt, r)?;
         }
     }
-    io::write_all(1, b"\n");
+    println!(rt; "")
 }
 
-fn show_taken() {
-    show(b"GEOS, little-endian", &stored::SQUARE_GEOS_LITTLE);
-    show(b"GEOS, big-endian", &stored::SQUARE_GEOS_BIG);
-    show(b"GDAL, little-endian", &stored::SQUARE_GDAL_LITTLE);
-    show(b"GDAL, big-endian", &stored::SQUARE_GDAL_BIG);
-    show(b"an outline of ten", &stored::OUTLINE_GEOS);
-    show(b"the largest coordinates", &stored::CORNER_GEOS);
+fn show_taken(rt: &impl Print) -> io::Result<()> {
+    show(rt, "GEOS, little-endian", &stored::SQUARE_GEOS_LITTLE)?;
+    show(rt, "GEOS, big-endian", &stored::SQUARE_GEOS_BIG)?;
+    show(rt, "GDAL, little-endian", &stored::SQUARE_GDAL_LITTLE)?;
+    show(rt, "GDAL, big-endian", &stored::SQUARE_GDAL_BIG)?;
+    show(rt, "an outline of ten", &stored::OUTLINE_GEOS)?;
+    show(rt, "the largest coordinates", &stored::CORNER_GEOS)
 }
 
 // Other shapes, and rings that the head gives away.
-fn show_other_shapes() {
-    show(b"SRID", &stored::SRID_GEOS);
-    show(b"z, extended", &stored::Z_GEOS);
-    show(b"z, ISO", &stored::Z_GDAL);
-    show(b"a hole", &stored::HOLE_GEOS);
-    show(b"empty", &stored::EMPTY_GDAL);
-    show(b"MultiPolygon", &stored::MANY_GEOS);
-    show(b"Point", &stored::POINT_GEOS);
+fn show_other_shapes(rt: &impl Print) -> io::Result<()> {
+    show(rt, "SRID", &stored::SRID_GEOS)?;
+    show(rt, "z, extended", &stored::Z_GEOS)?;
+    show(rt, "z, ISO", &stored::Z_GDAL)?;
+    show(rt, "a hole", &stored::HOLE_GEOS)?;
+    show(rt, "empty", &stored::EMPTY_GDAL)?;
+    show(rt, "MultiPolygon", &stored::MANY_GEOS)?;
+    show(rt, "Point", &stored::POINT_GEOS)
 }
 
-fn show_other_rings() {
-    show(b"not closed", &stored::OPEN_GDAL);
-    show(b"three positions", &stored::SHORT_GDAL);
-    show(b"a ring of seventeen", &stored::LONG_GEOS);
-    show(b"half a metre", &stored::HALF_GEOS);
-    show(b"below zero, big-endian", &stored::BELOW_GEOS);
-    show(b"16384", &stored::ABOVE_GEOS);
-    show(b"-0", &stored::MINUS_ZERO_GEOS);
+fn show_other_rings(rt: &impl Print) -> io::Result<()> {
+    show(rt, "not closed", &stored::OPEN_GDAL)?;
+    show(rt, "three positions", &stored::SHORT_GDAL)?;
+    show(rt, "a ring of seventeen", &stored::LONG_GEOS)?;
+    show(rt, "half a metre", &stored::HALF_GEOS)?;
+    show(rt, "below zero, big-endian", &stored::BELOW_GEOS)?;
+    show(rt, "16384", &stored::ABOVE_GEOS)?;
+    show(rt, "-0", &stored::MINUS_ZERO_GEOS)
 }
 
-fn show_damaged() {
-    show(b"NaN", &stored::NAN);
-    show(b"infinite before a cut", &stored::INFINITE_CUT);
-    show(b"a byte less", &stored::CUT);
-    show(b"a byte more", &stored::LEFT_OVER);
-    show(b"no bytes", b"");
+fn show_damaged(rt: &impl Print) -> io::Result<()> {
+    show(rt, "NaN", &stored::NAN)?;
+    show(rt, "infinite before a cut", &stored::INFINITE_CUT)?;
+    show(rt, "a byte less", &stored::CUT)?;
+    show(rt, "a byte more", &stored::LEFT_OVER)?;
+    show(rt, "no bytes", b"")
 }
 
-fn show_districts() {
-    show_district(b"a district", &stored::DISTRICT_GEOS);
-    show_district(b"a district, big-endian", &stored::DISTRICT_GDAL_BIG);
-    show_district(b"a district of mixed byte orders", &stored::DISTRICT_MIXED);
-    show_district(b"a district of one", &stored::DISTRICT_ONE_GEOS);
-    show_district(b"an empty district", &stored::DISTRICT_EMPTY_GDAL);
+fn show_districts(rt: &impl Print) -> io::Result<()> {
+    show_district(rt, "a district", &stored::DISTRICT_GEOS)?;
+    show_district(rt, "a district, big-endian", &stored::DISTRICT_GDAL_BIG)?;
+    show_district(
+        rt,
+        "a district of mixed byte orders",
+        &stored::DISTRICT_MIXED,
+    )?;
+    show_district(rt, "a district of one", &stored::DISTRICT_ONE_GEOS)?;
+    show_district(rt, "an empty district", &stored::DISTRICT_EMPTY_GDAL)
 }
 
-fn show_other_districts() {
-    show_district(b"the second not closed", &stored::DISTRICT_OPEN);
-    show_district(b"no room for the second", &stored::DISTRICT_LONG_GEOS);
-    show_district(b"a district and a byte more", &stored::DISTRICT_LEFT_OVER);
-    show_district(b"a polygon for a district", &stored::SQUARE_GEOS_LITTLE);
+fn show_other_districts(rt: &impl Print) -> io::Result<()> {
+    show_district(rt, "the second not closed", &stored::DISTRICT_OPEN)?;
+    show_district(rt, "no room for the second", &stored::DISTRICT_LONG_GEOS)?;
+    show_district(
+        rt,
+        "a district and a byte more",
+        &stored::DISTRICT_LEFT_OVER,
+    )?;
+    show_district(rt, "a polygon for a district", &stored::SQUARE_GEOS_LITTLE)
 }
 
-fn main() {
-    show_taken();
-    show_other_shapes();
-    show_other_rings();
-    show_damaged();
-    show_districts();
-    show_other_districts();
+fn main(rt: HostRuntime) -> io::Result<()> {
+    show_taken(&rt)?;
+    show_other_shapes(&rt)?;
+    show_other_rings(&rt)?;
+    show_damaged(&rt)?;
+    show_districts(&rt)?;
+    show_other_districts(&rt)
 }

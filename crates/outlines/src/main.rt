@@ -2,32 +2,42 @@
 // One byte more than a text may have is read, so that a longer one is seen. It stops where the output takes no more.
 #![tactic(auto)]
 
+ghost use Rattle.std.specs.Prelude.{◌≤◌, length};
+
 use listing::Parsed;
 use peel::{Drawn, Listed};
 use sheet::Refusal;
+use std::io::{ErrorKind, Read};
 
-const OUTPUT: i32 = 1;
+// Whether the output took the bytes.
+fn put(rt: &impl Print, bytes: &[u8]) -> bool {
+    match rt.write_all(bytes) {
+        Ok(()) => true,
+        Err(_) => false,
+    }
+}
 
-fn print_refusal(refusal: Refusal) -> bool {
+fn print_refusal(rt: &impl Print, refusal: Refusal) -> bool {
     let mut line = [0u8; 64];
     let n = listing::print_refusal(refusal, &mut line);
     if n <= 64 {
-        return io::write_all(OUTPUT, &line[..n]);
+        return put(rt, &line[..n]);
     }
     false
 }
 
-fn print_outline(least: u32, peeled: u32, area: u32, ring: &[u16]) -> bool {
+fn print_outline(rt: &impl Print, least: u32, peeled: u32, area: u32, ring: &[u16]) -> bool {
     let mut line = [0u8; 21567];
     let n = listing::print_line(least, peeled, area, ring, &mut line);
     if n <= 21567 {
-        return io::write_all(OUTPUT, &line[..n]);
+        return put(rt, &line[..n]);
     }
     false
 }
 
 // The lines of the first entries: each has the outline that its least limit draws.
 fn print_entries(
+    rt: &impl Print,
     xs: &[u16],
     ys: &[u16],
     corners: &[u16],
@@ -50,7 +60,13 @@ fn print_entries(
                 return;
             }
             Drawn::Outline(tally) => {
-                if !print_outline(limit, tally.peeled, tally.area, peel::outline(ring, tally)) {
+                if !print_outline(
+                    rt,
+                    limit,
+                    tally.peeled,
+                    tally.area,
+                    peel::outline(ring, tally),
+                ) {
                     return;
                 }
             }
@@ -58,7 +74,7 @@ fn print_entries(
     }
 }
 
-fn print_list(xs: &[u16], ys: &[u16], corners: &[u16]) {
+fn print_list(rt: &impl Print, xs: &[u16], ys: &[u16], corners: &[u16]) {
     let mut kept = [0u8; 2043];
     let mut rim = [0u8; 1024];
     let mut ring = [0u16; 1024];
@@ -78,33 +94,55 @@ fn print_list(xs: &[u16], ys: &[u16], corners: &[u16]) {
     );
     match listed {
         Listed::Refused(refusal) => {
-            print_refusal(refusal);
+            print_refusal(rt, refusal);
         }
         Listed::Entries(count) => {
             print_entries(
-                xs, ys, corners, &least, count, &mut kept, &mut rim, &mut ring,
+                rt, xs, ys, corners, &least, count, &mut kept, &mut rim, &mut ring,
             );
         }
     }
 }
 
-fn print(text: &[u8]) {
+fn print(rt: &impl Print, text: &[u8]) {
     let mut xs = [0u16; 16384];
     let mut ys = [0u16; 16384];
     let mut corners = [0u16; 32768];
     let parsed = listing::parse(text, &mut xs, &mut ys, &mut corners);
     match parsed {
         Parsed::Refused(refusal) => {
-            print_refusal(refusal);
+            print_refusal(rt, refusal);
         }
         Parsed::Counts(points, triangles) => {
-            print_list(&xs[..points], &ys[..points], &corners[..3 * triangles]);
+            print_list(rt, &xs[..points], &ys[..points], &corners[..3 * triangles]);
         }
     }
 }
 
-fn main() {
+// Reads until the text is full, the input ends or a read fails; answers how many bytes were read.
+fn read_full<R: Read>(reader: &mut R, text: &mut [u8]) -> usize
+    ensures { result ≤ length text.new }
+{
+    let mut n = 0;
+    for _ in 0..u64::MAX {
+        if n == text.len() {
+            break;
+        }
+        match reader.read(&mut text[n..]) {
+            Ok(0) => break,
+            Ok(more) => {
+                n += more;
+            }
+            Err(e) if e.kind() == ErrorKind::Interrupted => {}
+            Err(_) => break,
+        }
+    }
+    n
+}
+
+fn main(rt: HostRuntime) {
     let mut text = [0u8; 65537];
-    let n = io::read_full(0, &mut text);
-    print(&text[..n]);
+    let mut input = rt.reader();
+    let n = read_full(&mut input, &mut text);
+    print(&rt, &text[..n]);
 }
