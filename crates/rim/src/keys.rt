@@ -14,6 +14,7 @@ use sheet::plane::{at_corner, wide};
 pub type Key = u64;
 
 // The point at place s, by x and then by y.
+#[tactic(auto, using(crate::proofs::Cornered::x_there, crate::proofs::Cornered::y_there))]
 fn spot_at(xs: &[u16], ys: &[u16], corners: &[u16], s: usize) -> u32
     requires { Acceptable (office xs.now ys.now corners.now) × (s < length corners.now) }
     ensures { (result ≡ packed (point (office xs.now ys.now corners.now) (tail (office xs.now ys.now corners.now) s))) × (result < 268435456) }
