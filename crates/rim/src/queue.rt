@@ -251,7 +251,8 @@ pub fn next_side(
         let s = wide(queue[0]);
         let a = s / 3 * 3 + (s + 2) % 3;
         let apex = wide(corners[a]);
-        if rim[apex] != 1 {
+        let free = rim[apex] != 1;
+        if free {
             let first = keys[0];
             return Found {
                 side: Best::Side {

@@ -27,9 +27,9 @@ module _ (c : tie.After-wide-s invariant-loop decreases-loop) where
   abbrev b : tie.Start invariant-loop decreases-loop
   b = at.before.before.before.before.before.before
 
-returns : tie.Need-returns-then-rim-apex-ne1 invariant-loop decreases-loop
+returns : tie.Need-returns-then-free invariant-loop decreases-loop
 returns c =
-    found c.requires.0 c.loop-n.invariant.0 c.loop-n-test.true c.wide-s.ensures c.wide-apex.ensures c.if-rim-apex-ne1.true c.length_of.ensures
+    found c.requires.0 c.loop-n.invariant.0 c.loop-n-test.true c.wide-s.ensures c.wide-apex.ensures c.if-free.true c.length_of.ensures
 
 drop-first-requires : tie.Need-drop_first-requires invariant-loop decreases-loop
 drop-first-requires c κs =
@@ -37,7 +37,7 @@ drop-first-requires c κs =
 
 loop-again : tie.Need-loop-n-preserved invariant-loop decreases-loop
 loop-again c =
-    (drops_first c.requires.0 c.loop-n.invariant.0 c.loop-n-test.true c.wide-s.ensures c.wide-apex.ensures c.if-rim-apex-ne1.false c.drop_first.ensures, omega (arith, c.loop-n.invariant.1))
+    (drops_first c.requires.0 c.loop-n.invariant.0 c.loop-n-test.true c.wide-s.ensures c.wide-apex.ensures c.if-free.false c.drop_first.ensures, omega (arith, c.loop-n.invariant.1))
 
 pub next_side_spec : {M : Type 1} → statement M
 next_side_spec =
