@@ -85,7 +85,7 @@ fn put_district_head(out: &mut [u8], count: usize)
 
 // Puts polygons one after another at the front: each into the rest of the output after the one before it.
 fn put_polygons(xs: &[u16], ys: &[u16], lengths: &[u16], out: &mut [u8])
-    requires t { T (rings lengths.now) }
+    requires are_rings { T (rings lengths.now) }
     requires lengths_value { (total lengths.now ≡ length xs.now) × (total lengths.now ≡ length ys.now) }
     requires lengths_in_bounds { 29 * length lengths.now + 16 * total lengths.now ≤ length out.old }
     ensures { out.new ≡ sets out.old 0 (polygons (replicate (length lengths.now) 1) lengths.now xs.now ys.now) }
@@ -106,7 +106,7 @@ fn put_polygons(xs: &[u16], ys: &[u16], lengths: &[u16], out: &mut [u8])
 // Puts a district at the front: the head, and the polygons into the rest of the output after it.
 pub fn put_district(xs: &[u16], ys: &[u16], lengths: &[u16], out: &mut [u8])
     requires lengths_len_bound { length lengths.now ≤ 32 }
-    requires t { T (rings lengths.now) }
+    requires are_rings { T (rings lengths.now) }
     requires lengths_value { (total lengths.now ≡ length xs.now) × (total lengths.now ≡ length ys.now) }
     requires lengths_in_bounds { district_size lengths.now ≤ length out.old }
     ensures { out.new ≡ sets out.old 0 (district lengths.now xs.now ys.now) }

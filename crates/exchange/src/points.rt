@@ -58,7 +58,7 @@ fn scan_points(s: &[u8], at: usize, n: usize) -> Fault
 // Fills the lists with the grid numbers of n Points from a place on.
 pub fn fill_points(s: &[u8], at: usize, n: usize, xs: &mut [u16], ys: &mut [u16])
     requires n_in_bounds { at + 21 * n ≤ length s.now }
-    requires n_in_bounds_2 { (n ≤ length xs.old) × (n ≤ length ys.old) }
+    requires lists_in_bounds { (n ≤ length xs.old) × (n ≤ length ys.old) }
     ensures xs_after { xs.new ≡ sets xs.old 0 (row 21 (point_x s.now) n at) }
     ensures ys_after { ys.new ≡ sets ys.old 0 (row 21 (point_y s.now) n at) }
 {

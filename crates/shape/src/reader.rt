@@ -108,7 +108,7 @@ pub fn keep(s: &[u8], order: u8, at: usize, xs: &mut [u16], ys: &mut [u16], i: u
 // Fills the lists with the grid numbers of n positions from a place on.
 pub fn fill(s: &[u8], order: u8, at: usize, n: usize, xs: &mut [u16], ys: &mut [u16])
     requires n_in_bounds { at + 16 * n ≤ length s.now }
-    requires n_in_bounds_2 { (n ≤ length xs.old) × (n ≤ length ys.old) }
+    requires lists_in_bounds { (n ≤ length xs.old) × (n ≤ length ys.old) }
     ensures xs_after { xs.new ≡ sets xs.old 0 (grids n order s.now at) }
     ensures ys_after { ys.new ≡ sets ys.old 0 (grids n order s.now (at + 8)) }
 {

@@ -45,8 +45,8 @@ pub fn are_low(xs: &[u16], ys: &[u16]) -> bool
 // Puts a position's sixteen bytes at a place.
 fn put_position(out: &mut [u8], at: usize, p: Position)
     requires at_in_bounds { at + 16 ≤ length out.old }
-    requires t { T (not (is_nan p.x)) }
-    requires t_2 { T (not (is_nan p.y)) }
+    requires x_is_number { T (not (is_nan p.x)) }
+    requires y_is_number { T (not (is_nan p.y)) }
     ensures { out.new ≡ sets out.old at (low_bytes 8 (to_bits binary64 p.x) ++ low_bytes 8 (to_bits binary64 p.y)) }
 {
     numbers::put8(out, at, f64::to_bits(p.x));

@@ -88,7 +88,7 @@ pub fn port() -> Option<Box<dyn Library>> {
 /// The library, or an end with a word on how to make it.
 pub fn port_or_exit() -> Box<dyn Library> {
     port().unwrap_or_else(|| {
-        eprintln!("the library is not there: `rt check`, `rt staticlib port` and `rt staticlib host` make it; then build again");
+        eprintln!("the library is not there: `tools/build` makes it; then build again");
         std::process::exit(2)
     })
 }

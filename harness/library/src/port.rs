@@ -193,7 +193,7 @@ impl Library for Port {
             .stdin(Stdio::piped())
             .stdout(Stdio::piped())
             .spawn()
-            .expect("target/bin/outlines, made by rt check");
+            .expect("target/bin/outlines, made by tools/build");
         // It may end before it has read a text that is too long.
         let _ = printer.stdin.take().unwrap().write_all(text);
         printer.wait_with_output().expect("what the printer prints").stdout
