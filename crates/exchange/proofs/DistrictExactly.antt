@@ -1,14 +1,13 @@
 -- What the reader and the writer of district files answer, exactly when. Assumes nothing.
-use Prim.Native.Nat.{ℕ, zero, suc, ◌+◌, ◌*◌, ◌-◌, ◌<◌, ◌≤◌, suc-le-suc, zero-le}
-use mathlib.Core.Path.{◌≡◌, refl, sym, ap, ◌∙◌, subst}
-use mathlib.Core.Logic.{◌↔◌, ◌⊎◌, inl, inr}
-use mathlib.Core.Bool.{Bool, true, false, ◌&&◌}
+use Prim.Native.Nat.{ℕ, zero, suc, ◌+◌, ◌-◌, ◌≤◌}
+use mathlib.Core.Path.{◌≡◌, refl, sym, ap, ◌∙◌}
+use mathlib.Core.Logic.{◌↔◌, inl, inr}
+use mathlib.Core.Bool.{Bool, true, ◌&&◌}
 use mathlib.Core.List.{List, [], ◌∷◌, ◌++◌}
 use native.Mathlib.Omega.{arith}
-use native.Mathlib.Nat.{le_of_suc-le-suc}
 use borrow.Author.Tests.{leb-true, leb-false, le-leb, lt-leb, eqb-true, eq-eqb}
 use lib.Dec.{leb, eqb}
-use lib.ListN.{length, get_or}
+use lib.ListN.{length}
 use Rattle.laws.proofs.Test.{and_iff, false_iff}
 use Rattle.shape.specs.Answers.{Question, must, Answer, gives, refused, asked}
 use Rattle.shape.specs.Writing.{low}
@@ -20,7 +19,7 @@ use Rattle.shape.proofs.Polygons.{polygon_good}
 use Rattle.shape.proofs.Runs.{nothing_left, Exact, Row, all_fine, fine_all, first_bad, bad_first}
 use Rattle.shape.proofs.Shapes.{not_both, either_fails, typed, typed_passes, type_fault, type_refuses}
 use Rattle.exchange.specs.Districts.{total, rings, district_size, district_writing, parts_asks, parts_end, part_lengths, ring_count, ring_count_asks, district_head_asks, district_asks, district_answer, district_end}
-use Rattle.exchange.specs.DistrictRefusals.{Few, Summed, Rings, Divided, DistrictWriteFault, other_count, other_sum, no_rings, too_high, too_short, CountedHead, GoodDistrictHead, Parted, DistrictFault, other_shape, no_count, no_places, bad_part, left_over, DistrictTaken}
+use Rattle.exchange.specs.DistrictRefusals.{Few, Summed, Rings, Divided, DistrictWriteFault, other_count, other_sum, no_rings, too_high, too_short, GoodDistrictHead, Parted, DistrictFault, other_shape, no_count, no_places, bad_part, left_over, DistrictTaken}
 use Rattle.exchange.proofs.Refused.{polygon_refused_exactly}
 use Rattle.exchange.proofs.ReadExactly.{polygon_taken_exactly}
 use Rattle.exchange.proofs.WriteExactly.{lows_exactly}

@@ -5,7 +5,7 @@ use mathlib.Core.List.{List, ◌++◌}
 use native.Mathlib.Omega.{arith}
 use lib.ListN.{length, take, drop, get_or, replicate, length-replicate, get_or-replicate}
 use lib.Seq.{take_at}
-use Rattle.shape.specs.Answers.{Answer, gives, over}
+use Rattle.shape.specs.Answers.{gives, over}
 use Rattle.shape.specs.Reading.{order_at}
 use Rattle.shape.specs.Refusals.{Low}
 use Rattle.shape.proofs.Asking.{stands}

@@ -1,13 +1,13 @@
 -- The writer of district files: rings' lengths one by one, and polygons put one after the other. Assumes nothing.
 use Prim.Native.Nat.{ℕ, suc, ◌+◌, ◌*◌, ◌-◌, ◌<◌, ◌≤◌}
-use mathlib.Core.Path.{◌≡◌, refl, sym, ap, ◌∙◌}
+use mathlib.Core.Path.{◌≡◌, sym, ap, ◌∙◌}
 use mathlib.Core.Bool.{Bool, true, false, not, ◌&&◌}
 use mathlib.Core.List.{List, [], ◌∷◌, ◌++◌}
 use native.Mathlib.Omega.{arith}
 use borrow.Rule.Slice.PartMut.{mid_of, put_mid, mid_len}
 use borrow.Author.Tests.{leb-true, eqb-true, not-true, not-false}
 use lib.Dec.{leb, eqb}
-use lib.ListN.{length, take, drop, get_or, replicate, length-append, length-drop, length-replicate, drop_of_length-le}
+use lib.ListN.{length, take, drop, get_or, replicate, length-drop, drop_of_length-le}
 use lib.Seq.{drop-cons, drop-drop, length-take-le, sets, length-sets}
 use Rattle.laws.proofs.Test.{and_iff}
 use Rattle.laws.proofs.Put.{put_next, put_rest}

@@ -1,9 +1,9 @@
 -- A file of points: what it is that the reader takes, and how code that goes part by part comes to the answer. Assumes nothing.
-use Prim.Native.Nat.{ℕ, ◌+◌, ◌*◌, ◌-◌, ◌%◌, ◌<◌, ◌≤◌}
+use Prim.Native.Nat.{ℕ, ◌+◌, ◌*◌, ◌-◌, ◌<◌, ◌≤◌}
 use mathlib.Core.Path.{◌≡◌, refl, sym, ap, ◌∙◌}
-use mathlib.Core.Bool.{Bool, true, false, not, ◌||◌}
+use mathlib.Core.Bool.{Bool, false, not, ◌||◌}
 use mathlib.Core.Logic.{◌⊎◌, inl, inr}
-use mathlib.Core.List.{List, [], ◌∷◌, ◌++◌}
+use mathlib.Core.List.{List, [], ◌∷◌}
 use native.Mathlib.Omega.{arith}
 use borrow.Author.Tests.{eqb-true, not-false}
 use lib.Dec.{leb, eqb}
@@ -11,7 +11,7 @@ use lib.ListN.{length}
 use Rattle.laws.proofs.Test.{or_iff}
 use Rattle.shape.specs.Answers.{Question, must, Answer, gives, refused, asked}
 use Rattle.shape.specs.Reading.{run, coordinates, size_asks, order_at, type_asks}
-use Rattle.shape.proofs.Asking.{fault, stops_above, passes_below, ends, passes_all, stops_first, refused_other, gives_other, given_is}
+use Rattle.shape.proofs.Asking.{fault, stops_above, passes_below, ends, passes_all, refused_other, gives_other, given_is}
 use Rattle.shape.proofs.Scanned.{ran}
 use Rattle.shape.proofs.Heads.{passed_both, ran_there, coordinates_there}
 use Rattle.shape.proofs.Shapes.{typed, sized}

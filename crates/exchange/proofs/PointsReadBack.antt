@@ -1,6 +1,6 @@
 -- A file of points reads as those points, whatever byte orders its head and its Points have. Assumes nothing.
-use Prim.Native.Nat.{ℕ, suc, ◌+◌, ◌*◌, ◌^◌, ◌<◌, ◌≤◌, suc-le-suc, zero-le}
-use mathlib.Core.Path.{◌≡◌, refl, sym, ap, ◌∙◌, subst}
+use Prim.Native.Nat.{ℕ, suc, ◌+◌, ◌*◌, ◌<◌, ◌≤◌, suc-le-suc, zero-le}
+use mathlib.Core.Path.{◌≡◌, refl, sym, ap, ◌∙◌}
 use mathlib.Core.Bool.{true}
 use mathlib.Core.List.{List, [], ◌∷◌, ◌++◌, append_assoc, append-nil}
 use native.Mathlib.Omega.{arith}
@@ -19,7 +19,7 @@ use Rattle.exchange.specs.Points.{point, points, point_file, point_count, point_
 use Rattle.exchange.proofs.Words.{word_at, word_past, word_room}
 use Rattle.exchange.proofs.Lows.{low_parts, low_exactly}
 use Rattle.exchange.proofs.PointFiles.{size_passed, points_passed, all_read}
-use Rattle.exchange.proofs.Placed.{Begun, begun, Placed, position_back, placed_scanned}
+use Rattle.exchange.proofs.Placed.{begun, position_back, placed_scanned}
 
 -- each is 0 or 1
 abbrev pub Orders : List ℕ → Type 0

@@ -1,20 +1,18 @@
 -- Reading a polygon that was written gives the ring back, in either byte order and wherever it stands in a block. Assumes nothing.
-use Prim.Native.Nat.{ℕ, zero, suc, ◌+◌, ◌*◌, ◌-◌, ◌^◌, ◌<◌, ◌≤◌}
-use mathlib.Core.Path.{◌≡◌, refl, sym, ap, ◌∙◌, subst}
-use mathlib.Core.Bool.{Bool, true, false}
+use Prim.Native.Nat.{ℕ, suc, ◌+◌, ◌*◌, ◌≤◌}
+use mathlib.Core.Path.{◌≡◌, refl, sym, ap, ◌∙◌}
+use mathlib.Core.Bool.{true}
 use mathlib.Core.List.{List, [], ◌∷◌, ◌++◌, append_assoc, append-nil}
 use native.Mathlib.Omega.{arith}
-use borrow.Author.Tests.{le-leb, eq-eqb}
 use lib.Dec.{lit<}
-use lib.ListN.{length, drop, get_or, length-drop, length-append}
-use Rattle.laws.proofs.Test.{and_iff}
-use Rattle.shape.specs.Answers.{Answer, gives, asked, over}
+use lib.ListN.{length, drop, length-drop, length-append}
+use Rattle.shape.specs.Answers.{gives}
 use Rattle.shape.specs.Coordinates.{grid_of, grid_at}
 use Rattle.shape.specs.Bytes.{in_order, number_at}
-use Rattle.shape.specs.Writing.{position, positions, around, head, polygon, low, size}
-use Rattle.shape.specs.Reading.{row, grids, order_at, length_at, xs_at, ys_at, polygon_asks, read_answer}
+use Rattle.shape.specs.Writing.{position, positions, around, head, polygon, low}
+use Rattle.shape.specs.Reading.{row, grids, order_at, length_at, xs_at, ys_at, read_answer}
 use Rattle.shape.proofs.Scanned.{scanned, no_more}
-use Rattle.shape.proofs.Lengths.{around_length, around_same, head_length, polygon_length}
+use Rattle.shape.proofs.Lengths.{around_length, around_same, polygon_length}
 use Rattle.shape.proofs.Heads.{Headed}
 use Rattle.shape.proofs.Polygons.{Ringed, ringed_answer, all_read}
 use Rattle.exchange.proofs.Words.{word_at, word_past}

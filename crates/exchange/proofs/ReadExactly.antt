@@ -1,21 +1,20 @@
 -- What the reader answers, exactly when: a ring, or the number and the place of the first fault. Assumes nothing.
-use Prim.Native.Nat.{ℕ, ◌+◌, ◌*◌, ◌-◌, ◌<◌, ◌≤◌}
-use mathlib.Core.Path.{◌≡◌, refl, sym, ap, ◌∙◌, subst}
+use Prim.Native.Nat.{ℕ, ◌+◌, ◌*◌, ◌≤◌}
+use mathlib.Core.Path.{◌≡◌, refl, sym, ap, ◌∙◌}
 use mathlib.Core.Logic.{◌↔◌}
-use mathlib.Core.Bool.{Bool, true, false, ◌&&◌}
-use mathlib.Core.List.{List, [], ◌∷◌, ◌++◌}
+use mathlib.Core.List.{List, [], ◌∷◌}
 use native.Mathlib.Omega.{arith}
 use borrow.Author.Tests.{leb-true, leb-false, eq-eqb}
 use lib.Dec.{leb}
 use lib.ListN.{length}
 use Rattle.laws.proofs.Test.{and_iff}
-use Rattle.shape.specs.Answers.{Question, must, Answer, gives, refused, asked}
+use Rattle.shape.specs.Answers.{Question, must, gives, refused, asked}
 use Rattle.shape.specs.Coordinates.{grid_at}
-use Rattle.shape.specs.Reading.{count, order_at, length_at, last, end, polygon_asks, read_asks, read_answer}
-use Rattle.shape.specs.Refusals.{Good, GoodHead, Gridded, Closed, PolygonFault, ReadFault, within, left_over, Taken}
+use Rattle.shape.specs.Reading.{count, order_at, length_at, end, polygon_asks, read_answer}
+use Rattle.shape.specs.Refusals.{GoodHead, Closed, ReadFault, within, left_over, Taken}
 use Rattle.shape.proofs.Asking.{stops_above, passes, passes_below, ends, passes_all, stops_first, ask_cases, part_cases}
 use Rattle.shape.proofs.Scanned.{scanned}
-use Rattle.shape.proofs.Heads.{Headed, passed_one, passed_all, passed_both}
+use Rattle.shape.proofs.Heads.{passed_one, passed_all, passed_both}
 use Rattle.shape.proofs.Polygons.{Ringed, polygon_good}
 use Rattle.shape.proofs.Runs.{nothing_left, all_good}
 use Rattle.exchange.proofs.Refused.{from_answer, from_fault, pass_runs}

@@ -1,18 +1,17 @@
 -- Each refusal of the reader exactly when: the answer is the number and the place of the first fault, from left to right. Assumes nothing.
-use Prim.Native.Nat.{ℕ, ◌+◌, ◌*◌, ◌-◌, ◌<◌, ◌≤◌}
-use mathlib.Core.Path.{◌≡◌, refl, sym, ap, ◌∙◌, subst}
-use mathlib.Core.Logic.{◌↔◌, ◌⊎◌, inl, inr}
-use mathlib.Core.Bool.{Bool, true, false, true≢false, ◌&&◌}
+use Prim.Native.Nat.{ℕ, ◌+◌, ◌*◌, ◌≤◌}
+use mathlib.Core.Path.{◌≡◌, refl, sym, subst}
+use mathlib.Core.Logic.{◌↔◌, inl, inr}
 use mathlib.Core.List.{List, [], ◌∷◌, ◌++◌}
 use native.Mathlib.Omega.{arith}
 use borrow.Author.Tests.{leb-true, leb-false, eqb-true, eqb-false, eq-eqb, ne_eqb}
 use lib.Dec.{leb, eqb}
 use lib.ListN.{length}
-use Rattle.shape.specs.Answers.{Question, must, Answer, gives, refused, asked}
+use Rattle.shape.specs.Answers.{Question, must, Answer, refused, asked}
 use Rattle.shape.specs.Bytes.{number_at}
 use Rattle.shape.specs.Coordinates.{grid_at, whole}
 use Rattle.shape.specs.Reading.{coordinate_asks, coordinates, count, size_asks, type_asks, order_at, length_at, last, head_asks, closes, polygon_asks}
-use Rattle.shape.specs.Refusals.{Good, Typed, OneRing, GoodHead, Gridded, SameX, SameY, PolygonFault, other_shape, no_rings, other_rings, other_size, bad_coordinate, left_open}
+use Rattle.shape.specs.Refusals.{Good, Typed, OneRing, GoodHead, Gridded, PolygonFault, other_shape, no_rings, other_rings, other_size, bad_coordinate, left_open}
 use Rattle.shape.proofs.Asking.{stops, passes, stops_above, passes_below, passes_all, stops_first, ask_cases, part_cases}
 use Rattle.shape.proofs.Runs.{nothing_left, BadAt, coordinate_exact, all_good, steps, fine_all, first_bad, bad_first}
 use Rattle.shape.proofs.Shapes.{not_both, either_fails, typed, typed_passes, type_fault, type_refuses, sized, sized_passes, size_fault, size_refuses}

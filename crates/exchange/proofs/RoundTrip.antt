@@ -5,7 +5,7 @@ use mathlib.Core.List.{List, ◌++◌}
 use native.Mathlib.Omega.{arith}
 use lib.ListN.{length, take, drop}
 use lib.Seq.{take_at}
-use Rattle.shape.specs.Answers.{Answer, gives, over}
+use Rattle.shape.specs.Answers.{gives, over}
 use Rattle.shape.specs.Writing.{polygon, size, writing}
 use Rattle.shape.specs.Reading.{order_at, xs_at, ys_at, read_answer}
 use Rattle.shape.specs.Refusals.{Ring, Low}

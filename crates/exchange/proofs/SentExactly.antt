@@ -1,17 +1,17 @@
 -- The coordinate at a place of a point file, as it was sent: exactly when there is one; and that a refused coordinate is shown. Assumes nothing.
-use Prim.Native.Nat.{ℕ, ◌+◌, ◌*◌, ◌-◌, ◌/◌, ◌%◌, ◌≤◌}
+use Prim.Native.Nat.{ℕ, ◌+◌, ◌*◌, ◌-◌, ◌/◌, ◌≤◌}
 use mathlib.Core.Path.{◌≡◌, refl, sym, ap, ◌∙◌, subst}
 use mathlib.Core.Bool.{Bool, true, ◌||◌}
 use mathlib.Core.Logic.{◌↔◌, ◌⊎◌, inl, inr}
-use mathlib.Core.List.{List, [], ◌∷◌}
+use mathlib.Core.List.{List, []}
 use native.Mathlib.Omega.{arith}
 use borrow.Author.Tests.{leb-true, eqb-true, eq-eqb}
 use lib.Dec.{leb, eqb}
 use lib.ListN.{length}
 use Rattle.laws.proofs.Test.{or_iff}
 use Rattle.shape.specs.declared.Coordinate.{Coordinate}
-use Rattle.shape.specs.Answers.{Question, must, Answer, gives, refused, asked}
-use Rattle.shape.specs.Coordinates.{coordinate_at, refusal_of, whole}
+use Rattle.shape.specs.Answers.{Answer, gives, refused}
+use Rattle.shape.specs.Coordinates.{coordinate_at, refusal_of}
 use Rattle.shape.specs.Reading.{order_at}
 use Rattle.shape.specs.Refusals.{Bad, cut, not_finite, off_grid, Typed, TypeFault, no_order, other_order, no_type, other_type, SizeFault, no_count, other_count, no_room}
 use Rattle.shape.proofs.Asking.{passes, passes_below, ends, ask_cases}

@@ -1,16 +1,15 @@
 -- Two outcomes that one promise allows are equal, for each public call. Assumes nothing.
 use Prim.Native.Nat.{ℕ, min}
-use mathlib.Core.Path.{◌≡◌, refl, sym, ap, ◌∙◌}
+use mathlib.Core.Path.{◌≡◌, sym, ap, ◌∙◌}
 use mathlib.Core.List.{List}
 use native.Mathlib.Omega.{arith}
 use lib.ListN.{length}
 use Rattle.sheet.specs.declared.Refusal.{Refusal}
-use Rattle.shape.specs.declared.Coordinate.{Coordinate}
 use Rattle.shape.specs.declared.Written.{Written}
 use Rattle.shape.specs.declared.Written.TheVariants.{Bytes, Refused}
 use Rattle.shape.specs.declared.Reading.{Reading}
 use Rattle.shape.specs.declared.Reading.TheVariants.{Ring, Refused as Unread}
-use Rattle.shape.specs.Answers.{Answer, gives, refused, refusal, written, reading, over}
+use Rattle.shape.specs.Answers.{refusal, written, reading, over}
 use Rattle.shape.specs.Coordinates.{judgement}
 use Rattle.shape.specs.Writing.{polygon, writing}
 use Rattle.shape.specs.Reading.{read_answer, xs_at, ys_at}

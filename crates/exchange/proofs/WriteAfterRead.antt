@@ -1,24 +1,23 @@
 -- A polygon that the reader takes is, byte for byte, the polygon of its ring in its byte order: for little-endian blocks what the writer makes.
 -- Assumes nothing.
-use Prim.Native.Nat.{ℕ, zero, suc, ◌+◌, ◌*◌, ◌-◌, ◌^◌, ◌<◌, ◌≤◌}
+use Prim.Native.Nat.{ℕ, zero, suc, ◌+◌, ◌*◌, ◌≤◌}
 use mathlib.Core.Path.{◌≡◌, refl, sym, ap, ◌∙◌}
-use mathlib.Core.Bool.{Bool, true, false, ◌&&◌}
+use mathlib.Core.Bool.{true}
 use mathlib.Core.List.{List, [], ◌∷◌, ◌++◌, append_assoc, append-nil}
 use native.Mathlib.Omega.{arith}
 use borrow.Author.Tests.{leb-true}
-use lib.Dec.{leb, eqb}
+use lib.Dec.{leb}
 use lib.ListN.{length, drop, get_or, drop_of_length-le}
 use lib.Seq.{drop-cons}
 use Rattle.shape.specs.declared.Coordinate.{Coordinate}
 use Rattle.shape.specs.declared.Coordinate.TheVariants.{Grid, OffGrid, NotFinite}
-use Rattle.shape.specs.Answers.{Answer, gives, asked, over, must}
+use Rattle.shape.specs.Answers.{gives, must}
 use Rattle.shape.specs.Coordinates.{encode, coordinate_at, on_grid, grid_of, grid_at}
 use Rattle.shape.specs.Bytes.{in_order, number_at}
-use Rattle.shape.specs.Writing.{position, positions, around, head, polygon, low, size, writing}
-use Rattle.shape.specs.Reading.{row, grids, count, order_at, length_at, xs_at, ys_at, polygon_asks, end, read_answer}
+use Rattle.shape.specs.Writing.{positions, around, head, polygon, low, size}
+use Rattle.shape.specs.Reading.{row, grids, order_at, length_at, xs_at, ys_at, polygon_asks, end, read_answer}
 use Rattle.shape.proofs.Judgements.{encode_judge}
 use Rattle.shape.proofs.Scanned.{scanned, row_length}
-use Rattle.shape.proofs.Lengths.{polygon_length}
 use Rattle.shape.proofs.Heads.{Headed, coordinate_passed, passed_one, passed_all, passed_both}
 use Rattle.shape.proofs.Polygons.{Ringed, polygon_good}
 use Rattle.exchange.proofs.Words.{Octets, word_lt, word_of}

@@ -1,18 +1,17 @@
 -- What the writer and the separate call answer, exactly when. Assumes nothing.
-use Prim.Native.Nat.{ℕ, ◌+◌, ◌*◌, ◌<◌, ◌≤◌}
+use Prim.Native.Nat.{ℕ, ◌+◌, ◌≤◌}
 use mathlib.Core.Path.{◌≡◌, refl, sym, ap, ◌∙◌}
 use mathlib.Core.Logic.{◌↔◌}
-use mathlib.Core.Bool.{Bool, true, false, ◌&&◌}
-use mathlib.Core.List.{List, [], ◌∷◌}
-use native.Mathlib.Omega.{arith}
+use mathlib.Core.Bool.{Bool, true, ◌&&◌}
+use mathlib.Core.List.{List, []}
 use borrow.Author.Tests.{leb-true, leb-false, le-leb, eqb-true, eq-eqb}
 use lib.Dec.{leb, eqb}
 use lib.ListN.{length}
 use Rattle.laws.proofs.Test.{and_iff, false_iff}
 use Rattle.shape.specs.declared.Coordinate.{Coordinate}
-use Rattle.shape.specs.Answers.{Question, must, Answer, gives, refused, asked}
-use Rattle.shape.specs.Coordinates.{coordinate_at, judge_asks, judgement}
-use Rattle.shape.specs.Writing.{low, size, write_asks, writing}
+use Rattle.shape.specs.Answers.{gives, refused}
+use Rattle.shape.specs.Coordinates.{coordinate_at, judgement}
+use Rattle.shape.specs.Writing.{low, size, writing}
 use Rattle.shape.specs.Refusals.{Ring, Low, WriteFault, no_ring, too_high, too_short, JudgeFault, other_order, cut}
 use Rattle.shape.proofs.Asking.{stops, stops_above, passes, passes_below, ends, ask_cases}
 use Rattle.shape.proofs.Heads.{passed_one, passed_all}

@@ -1,5 +1,5 @@
 -- Document 02, 3/13: when each refusal of a district's file is given and at which place, in plain logic. Assumes nothing.
-use Rattle.std.specs.Prelude.{ℕ, ◌+◌, ◌*◌, ◌-◌, ◌<◌, ◌≤◌, ◌≡◌, ◌⊎◌, List, length, get_or}
+use Rattle.std.specs.Prelude.{ℕ, ◌-◌, ◌<◌, ◌≤◌, ◌≡◌, ◌⊎◌, List, length, get_or}
 use Rattle.shape.specs.Refusals.{Typed, TypeFault, Closed, PolygonFault, Low}
 use Rattle.exchange.specs.Districts.{total, district_size, parts_end, part_lengths, ring_count, district_end}
 

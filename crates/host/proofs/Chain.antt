@@ -1,5 +1,5 @@
 -- The refusals of the blocks, in their order. Assumes nothing.
-use Prim.Native.Nat.{ℕ, ◌/◌, ◌%◌, ◌*◌, ◌≤◌}
+use Prim.Native.Nat.{ℕ, ◌/◌, ◌%◌, ◌≤◌}
 use mathlib.Core.Path.{◌≡◌}
 use mathlib.Core.Bool.{Bool, true, false, not, ◌||◌}
 use mathlib.Core.List.{List}
@@ -9,7 +9,7 @@ use lib.ListN.{length}
 use Rattle.laws.proofs.Test.{plain}
 use Rattle.sheet.specs.Verdict.{verdict}
 use Rattle.host.specs.Blocks.{decoded}
-use Rattle.host.specs.Polygon.{After, refusal, draws, after_polygon}
+use Rattle.host.specs.Polygon.{refusal, draws, after_polygon}
 
 module _ (points triangles : List ℕ) where
   abbrev cut : Bool

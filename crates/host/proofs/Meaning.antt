@@ -1,15 +1,15 @@
 -- What the C function writes for an acceptable office: past the check only 32 is left to refuse, and the polygon reads back as the outline.
 -- Assumes nothing.
-use Prim.Native.Nat.{ℕ, ◌+◌, ◌≤◌, ◌<◌}
-use mathlib.Core.Path.{◌≡◌, refl, sym, ap, ap₂, ◌∙◌}
-use mathlib.Core.Bool.{true, cond, ◌&&◌}
+use Prim.Native.Nat.{ℕ, ◌≤◌, ◌<◌}
+use mathlib.Core.Path.{◌≡◌, sym, ◌∙◌}
+use mathlib.Core.Bool.{true, cond}
 use mathlib.Core.List.{List, [], ◌∷◌}
 use native.Mathlib.Decide.{dec_lt}
 use native.Mathlib.Omega.{arith}
 use borrow.Author.Tests.{le-leb, eq-eqb}
-use lib.Dec.{leb, eqb}
+use lib.Dec.{leb}
 use lib.ListN.{length, get_or, get_or-eq_default}
-use Rattle.sheet.specs.Office.{Office, points, rims}
+use Rattle.sheet.specs.Office.{Office}
 use Rattle.sheet.specs.Acceptable.{Acceptable}
 use Rattle.sheet.proofs.Hull.{hull_three}
 use Rattle.rim.specs.Peel.{ring, drawn}
@@ -17,7 +17,7 @@ use Rattle.peel.proofs.DrawEnds.{drawn_ends}
 use Rattle.rim.proofs.Reached.{sound}
 use Rattle.rim.proofs.Rings.{ring_length, ring_fits}
 use Rattle.shape.specs.Answers.{gives, refused, asked}
-use Rattle.shape.specs.Writing.{low, size, polygon, writing}
+use Rattle.shape.specs.Writing.{low, size, polygon}
 use Rattle.shape.specs.Reading.{read_answer, xs_at, ys_at}
 use Rattle.exchange.proofs.Lows.{low_none, low_more}
 use Rattle.exchange.proofs.ReadAfterWrite.{Writable, read_after_write}

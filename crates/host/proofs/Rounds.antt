@@ -1,25 +1,23 @@
 -- What a draw and the writer come to, for the polygon of an office. Assumes nothing.
-use Prim.Native.Nat.{ℕ, ◌+◌, ◌*◌, ◌/◌, ◌≤◌, ◌<◌, ◌^◌}
+use Prim.Native.Nat.{ℕ, ◌/◌, ◌≤◌, ◌<◌, ◌^◌}
 use mathlib.Core.Path.{◌≡◌, refl, sym, ap, ap₂, ◌∙◌}
 use mathlib.Core.Bool.{Bool, true, false, cond}
-use mathlib.Core.List.{List, [], ◌∷◌, ◌++◌, map}
+use mathlib.Core.List.{List, [], ◌++◌}
 use native.Mathlib.Omega.{arith}
 use borrow.Author.Tests.{le-leb}
 use lib.Dec.{leb}
-use lib.IntN.{ℤ, pos, neg_ℤ}
-use lib.ListN.{length, take, drop, length-map, length-take}
+use lib.ListN.{length, take, length-map, length-take}
 use lib.Seq.{take_at}
-use Rattle.sheet.specs.Office.{Office, office, points, triangles}
+use Rattle.sheet.specs.Office.{Office, office}
 use Rattle.sheet.specs.Verdict.{Verdict, accepted, verdict}
-use Rattle.sheet.specs.Verdict as Verdict
 use Rattle.sheet.specs.declared.Refusal.{Refusal}
-use Rattle.peel.specs.Answer.{tally, refusal, draw_answer, drawing, draw_room, after_draw, used}
+use Rattle.peel.specs.Answer.{draw_answer, drawing, draw_room, after_draw, used}
 use Rattle.peel.specs.declared.Drawn.{Drawn}
 use Rattle.peel.specs.declared.Drawn.TheVariants.{Outline, Refused}
 use Rattle.rim.specs.declared.Tally.{Tally}
 use Rattle.peel.proofs.Outcomes.{draw_given, draw_refused}
 use Rattle.peel.proofs.UsedPart.{outline_of_draw}
-use Rattle.shape.specs.Answers.{gives, written, over}
+use Rattle.shape.specs.Answers.{written, over}
 use Rattle.shape.specs.Writing.{polygon, writing}
 use Rattle.shape.specs.declared.Written.{Written}
 use Rattle.shape.specs.declared.Written.TheVariants.{Bytes}

@@ -3,7 +3,6 @@
 use Rattle.std.specs.Prelude.{ℕ, ◌/◌, ◌%◌, Bool, true, not, cond, ◌||◌, List, map, ltb, eqb, ℤ, pos, neg_ℤ, length, get_or}
 use Rattle.sheet.specs.Office.{Office}
 use Rattle.sheet.specs.Verdict.{Verdict, accepted, verdict}
-use Rattle.sheet.specs.Verdict as Verdict
 use Rattle.rim.specs.Peel.{ring, drawn}
 use Rattle.shape.specs.Answers.{Answer, gives, refused, over}
 use Rattle.shape.specs.Writing.{polygon, writing}

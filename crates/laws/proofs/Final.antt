@@ -2,14 +2,13 @@
 use mathlib.Core.Path.{◌≡◌, refl, sym, ap, ◌∙◌}
 use mathlib.Core.Bool.{Bool, true, false, true≢false, cond, ◌&&◌}
 use mathlib.Core.Logic.{◌⊎◌, inl, inr}
-use Prim.Native.Nat.{ℕ, zero, suc, ◌+◌, ◌≤◌, ◌<◌}
-use native.Mathlib.Numerals.{add-one}
+use Prim.Native.Nat.{ℕ, zero, suc, ◌≤◌, ◌<◌}
 use native.Mathlib.Decide.{ℕ_discrete}
 use native.Mathlib.Omega.{arith}
 use lib.Dec.{ltb}
 use borrow.Author.Tests.{lt-ltb, le-ltb}
 use Rattle.laws.specs.First.{any, final}
-use Rattle.laws.proofs.Test.{false_iff, same_answer, any_iff}
+use Rattle.laws.proofs.Test.{false_iff, any_iff}
 
 -- r is the greatest hit below n, or none
 pub data IsFinal (none : ℕ) (test : ℕ → Bool) (n r : ℕ) : Type 0 where

@@ -1,10 +1,9 @@
 -- Document 01's printed example, and texts on the edge of the grammar, computed. Assumes nothing.
-use Prim.Native.Nat.{ℕ}
 use mathlib.Core.Path.{◌≡◌, refl}
-use mathlib.Core.List.{List, [], ◌∷◌, map}
-use mathlib.Core.Option.{Option, none, some}
+use mathlib.Core.List.{[], ◌∷◌, map}
+use mathlib.Core.Option.{none, some}
 use Rattle.laws.specs.First.{table}
-use Rattle.sheet.specs.Office.{Office, office}
+use Rattle.sheet.specs.Office.{office}
 use Rattle.listing.specs.Text.{parted, digits, value_from, values, numbers, parsed}
 use Rattle.listing.specs.Line.{spelled, decimal, onward, line, refusal_line}
 

@@ -1,16 +1,16 @@
 -- A text is taken exactly where it says numbers, and then it gives those. Assumes nothing.
 use Prim.Native.Nat.{ℕ, zero, suc, ◌+◌, ◌*◌, ◌-◌, ◌≤◌, ◌<◌}
 use mathlib.Core.Path.{◌≡◌, refl, sym, ap, subst, ◌∙◌}
-use mathlib.Core.Logic.{◌↔◌, ◌⊎◌, inl, inr}
-use mathlib.Core.Bool.{Bool, true, false, cond, ◌&&◌, ◌||◌, true≢false}
+use mathlib.Core.Logic.{◌↔◌, inl, inr}
+use mathlib.Core.Bool.{Bool, true, false, ◌||◌}
 use mathlib.Core.List.{List, [], ◌∷◌, ◌++◌, append_assoc, append-nil}
 use mathlib.Core.Option.{Option, none, some}
 use native.Mathlib.Omega.{arith}
-use borrow.Author.Tests.{le-leb, leb-true, lt-leb, eq-eqb, eqb-true}
+use borrow.Author.Tests.{le-leb, leb-true, eqb-true}
 use lib.Dec.{leb, eqb}
 use lib.ListN.{length}
 use Rattle.laws.proofs.Test.{and_iff, or_iff, false_iff}
-use Rattle.listing.specs.Text.{white, digit, digits, value_from, value, number, before, words, values, numbers}
+use Rattle.listing.specs.Text.{white, digit, digits, value_from, value, number, before, numbers}
 use Rattle.listing.specs.Says.{White, Digits, Number, Says, nothing, gap, last, next}
 use Rattle.listing.specs.Code.{ended, continues, scanned}
 use Rattle.listing.proofs.Words.{number_iff, number_front, goes_on, longer_number, snoc_length, snoc_value, scan_words}

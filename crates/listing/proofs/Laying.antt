@@ -1,17 +1,15 @@
 -- The office that numbers in front of a list say. Assumes nothing.
-use Prim.Native.Nat.{ℕ, zero, suc, ◌+◌, ◌*◌, ◌/◌, ◌≤◌, ◌<◌}
-use mathlib.Core.Path.{◌≡◌, refl, sym, ap, ◌∙◌}
-use mathlib.Core.Bool.{Bool, true, false}
+use Prim.Native.Nat.{ℕ, ◌+◌, ◌*◌, ◌≤◌, ◌<◌}
+use mathlib.Core.Path.{◌≡◌, sym, ap, ◌∙◌}
 use mathlib.Core.List.{List}
-use mathlib.Core.Option.{Option, none, some}
+use mathlib.Core.Option.{none, some}
 use native.Mathlib.Omega.{arith}
 use borrow.Author.Tests.{le-leb, lt-leb, eq-eqb, ne_eqb}
 use lib.ListN.{length, get_or, take}
 use lib.Seq.{get_or-take, length-take-le}
-use Rattle.laws.specs.First.{table}
 use Rattle.laws.proofs.Front.{table_same}
-use Rattle.sheet.specs.Office.{Office, office}
-use Rattle.listing.specs.Text.{parsed, numbers, sheet_of, values, words}
+use Rattle.sheet.specs.Office.{office}
+use Rattle.listing.specs.Text.{parsed, sheet_of}
 use Rattle.listing.specs.Code.{scanned, laid}
 use Rattle.listing.proofs.Words.{scan_words}
 

@@ -1,14 +1,13 @@
 -- What parsing leaves, case by case. Assumes nothing.
 use Prim.Native.Nat.{ℕ, ◌+◌, ◌*◌, ◌/◌, ◌≤◌}
-use mathlib.Core.Path.{◌≡◌, refl, sym, ap, ap₂, subst, ◌∙◌}
+use mathlib.Core.Path.{◌≡◌, sym, ap, ap₂, subst, ◌∙◌}
 use mathlib.Core.Bool.{Bool, true, false, ◌&&◌}
 use mathlib.Core.List.{List}
-use mathlib.Core.Option.{Option, none, some}
+use mathlib.Core.Option.{none, some}
 use native.Mathlib.Omega.{arith}
 use borrow.Author.Tests.{leb-true}
 use lib.Dec.{leb}
 use lib.ListN.{length, get_or}
-use Rattle.laws.specs.First.{table}
 use Rattle.laws.proofs.Fill.{length-table}
 use Rattle.laws.proofs.Test.{and_iff}
 use Rattle.sheet.specs.declared.Refusal.{Refusal}

@@ -1,11 +1,10 @@
 -- Two outcomes that one promise allows are equal. Assumes nothing.
-use Prim.Native.Nat.{ℕ, ◌+◌}
+use Prim.Native.Nat.{ℕ}
 use mathlib.Core.Path.{◌≡◌, sym, ap, ◌∙◌}
 use mathlib.Core.List.{List}
 use native.Mathlib.Omega.{arith}
-use lib.ListN.{length}
 use Rattle.sheet.proofs.Unique.{same_refusal}
-use Rattle.listing.specs.Answer.{answer, AfterParse, after_parse, printed, after_print}
+use Rattle.listing.specs.Answer.{answer, after_parse, printed, after_print}
 use Rattle.listing.specs.declared.Parsed.{Parsed}
 use Rattle.listing.specs.declared.Parsed.TheVariants.{Counts, Refused}
 

@@ -1,5 +1,5 @@
 -- Document 01, 'The printed list', what the printer writes. Assumes nothing.
-use Rattle.std.specs.Prelude.{ℕ, zero, suc, ◌+◌, ◌*◌, ◌/◌, ◌%◌, cond, List, [], ◌∷◌, ◌++◌, ltb, length}
+use Rattle.std.specs.Prelude.{ℕ, zero, suc, ◌+◌, ◌*◌, ◌/◌, ◌%◌, cond, List, [], ◌∷◌, ◌++◌, ltb}
 
 -- the digits of n, k at most, in front of a text: no zero leads, but in 0
 unfoldable pub spelled : ℕ → ℕ → List ℕ → List ℕ

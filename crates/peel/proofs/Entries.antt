@@ -10,7 +10,7 @@ use lib.ListN.{length, get_elem?}
 use Rattle.laws.proofs.Order.{level}
 use Rattle.sheet.specs.Office.{Office, points}
 use Rattle.sheet.specs.Acceptable.{Acceptable}
-use Rattle.rim.specs.Peel.{peels, drawn, ring}
+use Rattle.rim.specs.Peel.{drawn, ring}
 use Rattle.peel.specs.List.{Entry, At, entries, outline}
 use Rattle.peel.specs.LookUp.{place_of}
 use Rattle.peel.specs.Index.{limits}

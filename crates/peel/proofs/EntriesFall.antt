@@ -10,7 +10,7 @@ use lib.Dec.{ltb}
 use borrow.Author.Tests.{ltb-true}
 use Rattle.sheet.specs.Office.{Office, sides, triangles}
 use Rattle.sheet.specs.Acceptable.{Acceptable}
-use Rattle.rim.specs.Peel.{best, long, peel, peels, whole}
+use Rattle.rim.specs.Peel.{best, long, peel, whole}
 use Rattle.peel.specs.List.{Entry, listed, entries_from, entries, outline}
 use Rattle.rim.specs.Reached.{Reached, begun, more}
 use Rattle.rim.proofs.Reached.{sound}

@@ -13,7 +13,7 @@ use Rattle.sheet.specs.Acceptable.{Acceptable}
 use Rattle.sheet.proofs.Accepted.{accepted_exactly}
 use Rattle.peel.specs.Log.{log}
 use Rattle.peel.specs.Answer.{count, refusal}
-use Rattle.peel.specs.LogAnswer.{AfterLog, written, logged, after_log}
+use Rattle.peel.specs.LogAnswer.{written, logged, after_log}
 use Rattle.peel.proofs.PeelLog.{own_length}
 
 module _ (xs ys corners : List ℕ) (limit : ℕ) (out : List ℕ) where

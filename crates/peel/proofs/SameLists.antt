@@ -9,7 +9,7 @@ use Rattle.sheet.specs.Office.{Office, office, rims as hull_sides}
 use Rattle.sheet.specs.Renumbered.{Renumbered}
 use Rattle.sheet.proofs.Accepted.{accepted_lent}
 use Rattle.rim.specs.Peel.{drawn, rims}
-use Rattle.peel.specs.List.{Entry, entries, outline}
+use Rattle.peel.specs.List.{Entry, entries}
 use Rattle.peel.specs.Answer.{count, list_answer, list_room, column, ListPromise}
 use Rattle.peel.specs.declared.Listed.{Listed}
 use Rattle.peel.proofs.Answered.{list_lent, list_accepted}

@@ -1,7 +1,7 @@
 -- A step's queue: the two sides that a peel lays bare are the mates of the other two sides of its triangle, and there is room for them. Assumes nothing.
 use mathlib.Core.Path.{◌≡◌, sym, ap, subst, ◌∙◌}
 use mathlib.Core.List.{List}
-use Prim.Native.Nat.{ℕ, suc, ◌+◌, ◌/◌, ◌<◌, ◌≤◌}
+use Prim.Native.Nat.{ℕ, suc, ◌/◌, ◌<◌, ◌≤◌}
 use native.Mathlib.Omega.{arith}
 use lib.ListN.{get_or, set}
 use Rattle.laws.proofs.Fill.{table_at}

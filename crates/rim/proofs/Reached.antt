@@ -8,7 +8,6 @@ use native.Mathlib.Decide.{ℕ_discrete}
 use native.Mathlib.Omega.{arith}
 use lib.ListN.{length, get_or, length-replicate, get_or-replicate}
 use lib.Seq.{get_or-set_other}
-use Rattle.laws.specs.First.{count}
 use Rattle.laws.proofs.Count.{count_none}
 use Rattle.laws.specs.Round.{Round}
 use Rattle.laws.proofs.Runs.{same_sides}

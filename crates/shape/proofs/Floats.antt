@@ -1,13 +1,10 @@
 -- Floats on the grid: the float of a grid number, and what the tests of `on_grid` say. Assumes nothing.
-use Rattle.std.proofs.Common.{◌≡◌, ℕ, zero, suc, ◌+◌, ◌-◌, ◌*◌, ◌/◌, ◌%◌, ◌^◌, ◌<◌, ◌≤◌, min, Bool, true, false, cond, not, ◌&&◌, T, eqb, ltb, leb, ℤ, pos, sym, refl, ap, ◌∙◌, subst, le_trans, div-lt_iff_lt-mul, mul-pos, one-mul, mul-one, arith, lit<, lit≤, le→leb, eqb→eq, ltb→lt, lt→ltb}
+use Rattle.std.proofs.Common.{◌≡◌, ℕ, zero, suc, ◌+◌, ◌-◌, ◌*◌, ◌/◌, ◌%◌, ◌^◌, ◌<◌, ◌≤◌, Bool, true, false, cond, not, ◌&&◌, T, eqb, ltb, pos, sym, refl, ap, ◌∙◌, subst, div-lt_iff_lt-mul, mul-one, arith, lit<, lit≤, le→leb, eqb→eq, ltb→lt, lt→ltb}
 use Prim.Native.Nat.{compare}
 use lib.Ieee.{Format, prec, emax, low, Float, nan, inf, fin, binary64, up, down, lt, fits, is_nan, nan_bits, to_bits, of_bits, of_int, in_unsigned, in_float, to_unsigned, whole, odd, units, round, size, nearest}
-use lib.Ieee.Fits.{and_r, and_l, round_is, of_int-fits, eq→eqb, down_pos}
-use lib.Ieee.Bits.{of_bits-to_bits, to_bits-of_bits, of_bits-fits, nan_bits_is}
-use lib.Ieee.Back.{unsigned_back, Float-back_unsigned, round_whole}
-use Rattle.shape.specs.declared.Coordinate.{Coordinate}
-use Rattle.shape.specs.declared.Coordinate.TheVariants.{Grid, OffGrid, NotFinite}
-use Rattle.shape.specs.Coordinates.{coordinate, encode}
+use lib.Ieee.Fits.{and_r, round_is, of_int-fits, eq→eqb, down_pos}
+use lib.Ieee.Bits.{of_bits-to_bits, nan_bits_is}
+use lib.Ieee.Back.{unsigned_back, Float-back_unsigned}
 
 pub same_test : (a b : Bool) → (T a → T b) → (T b → T a) → a ≡ b
 same_test true true f g = refl

@@ -1,9 +1,7 @@
 -- What an answer says of the questions: each that was passed holds; a head that was read, and positions that were scanned. Assumes nothing.
-use Rattle.std.proofs.Common.{◌≡◌, ℕ, zero, suc, ◌+◌, ◌-◌, ◌*◌, ◌<◌, ◌≤◌, Bool, true, false, cond, ◌&&◌, eqb, leb, List, [], ◌∷◌, ◌++◌, length, sym, refl, ap, ◌∙◌, subst, true≢false, arith, eq-eqb, eqb-true, le-leb, leb-true}
-use Rattle.laws.proofs.Test.{plain, and_iff}
-use Rattle.shape.specs.declared.Coordinate.{Coordinate}
-use Rattle.shape.specs.declared.Coordinate.TheVariants.{Grid, OffGrid, NotFinite}
-use Rattle.shape.specs.Answers.{Question, must, Answer, gives, refused, asked}
+use Rattle.std.proofs.Common.{◌≡◌, ℕ, zero, suc, ◌+◌, ◌-◌, ◌*◌, ◌≤◌, Bool, true, false, cond, ◌&&◌, eqb, leb, List, [], ◌∷◌, ◌++◌, length, sym, refl, ap, ◌∙◌, arith, eq-eqb, eqb-true, le-leb, leb-true}
+use Rattle.laws.proofs.Test.{and_iff}
+use Rattle.shape.specs.Answers.{Question, must, gives, refused, asked}
 use Rattle.shape.specs.Bytes.{number_at}
 use Rattle.shape.specs.Coordinates.{coordinate_at, on_grid}
 use Rattle.shape.specs.Reading.{run, coordinate_asks, coordinates, count, count_asks, order_at, type_asks, length_at, head_asks}

@@ -1,10 +1,9 @@
 -- What a float is as a coordinate, and the two laws of judging and writing: a grid number's pattern is judged as that number, and a pattern
 -- that is judged as a grid number is that number's. Assumes nothing.
 use Rattle.std.proofs.Common.{◌≡◌, ℕ, ◌^◌, ◌<◌, ◌≤◌, Bool, true, false, cond, ◌&&◌, T, ◌⊎◌, ◌↔◌, ℤ, pos, sym, refl, ap, ◌∙◌, subst, inl, inr, arith}
-use lib.Ieee.{Float, nan, inf, fin, binary64, lt, fits, is_nan, to_bits, of_bits, of_int, in_unsigned, to_unsigned, whole}
+use lib.Ieee.{Float, nan, inf, fin, binary64, lt, fits, to_bits, of_bits, of_int, in_unsigned, to_unsigned, whole}
 use lib.Ieee.Fits.{of_int-fits}
 use lib.Ieee.Bits.{of_bits-to_bits, to_bits-of_bits, of_bits-fits}
-use Rattle.shape.specs.declared.Coordinate.{Coordinate}
 use Rattle.shape.specs.declared.Coordinate.TheVariants.{Grid, OffGrid, NotFinite}
 use Rattle.shape.specs.Coordinates.{coordinate, encode}
 use Rattle.shape.proofs.Floats.{holds, fails, comes_back, finite_no_nan, is_number, cut_lt}

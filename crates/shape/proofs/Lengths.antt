@@ -1,5 +1,5 @@
 -- How long a polygon's parts are, in either byte order, and its positions one after the other. Assumes nothing.
-use Rattle.std.proofs.Common.{◌≡◌, ℕ, zero, suc, ◌+◌, ◌*◌, ◌<◌, ◌≤◌, Bool, true, false, eqb, List, [], ◌∷◌, ◌++◌, length, get_or, drop, sym, refl, ap, ◌∙◌, append_assoc, append-nil, arith, length-append, drop-cons}
+use Rattle.std.proofs.Common.{◌≡◌, ℕ, suc, ◌+◌, ◌*◌, ◌<◌, Bool, true, false, eqb, List, [], ◌∷◌, ◌++◌, length, get_or, drop, sym, refl, ap, ◌∙◌, append_assoc, append-nil, arith, length-append, drop-cons}
 use lib.ListN.{length-reverse}
 use Rattle.shape.specs.Coordinates.{encode}
 use Rattle.shape.specs.Bytes.{low_bytes, turned, in_order}

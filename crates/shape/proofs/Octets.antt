@@ -1,5 +1,5 @@
 -- Numbers and their bytes: a run of bytes as a list that is written out, and runs of stores. Assumes nothing.
-use Rattle.std.proofs.Common.{◌≡◌, ℕ, zero, suc, ◌+◌, ◌-◌, ◌*◌, ◌/◌, ◌%◌, ◌^◌, ◌<◌, ◌≤◌, Bool, true, false, T, eqb, List, [], ◌∷◌, ◌++◌, reverse, length, get_or, take, drop, set, sym, refl, ap, ◌∙◌, subst, add-zero, add-suc, suc-add, arith, drop-cons}
+use Rattle.std.proofs.Common.{◌≡◌, ℕ, zero, suc, ◌+◌, ◌*◌, ◌/◌, ◌<◌, ◌≤◌, Bool, true, false, eqb, List, [], ◌∷◌, ◌++◌, reverse, length, get_or, take, drop, sym, refl, ap, ◌∙◌, add-zero, add-suc, arith, drop-cons}
 use lib.Seq.{sets}
 use Rattle.laws.proofs.Put.{sets-append, put_next}
 use Rattle.shape.specs.Bytes.{low_first, low_bytes, turned, number_at}

@@ -1,11 +1,10 @@
 -- A polygon that begins at a place: what it is that the reader takes, and how code that goes part by part comes to the answer. Assumes nothing.
-use Rattle.std.proofs.Common.{◌≡◌, ℕ, ◌+◌, ◌-◌, ◌*◌, ◌<◌, ◌≤◌, Bool, true, false, ◌&&◌, eqb, leb, List, [], ◌∷◌, ◌++◌, length, drop, sym, refl, ap, ◌∙◌, arith, eq-eqb, eqb-true}
+use Rattle.std.proofs.Common.{◌≡◌, ℕ, ◌+◌, ◌*◌, ◌<◌, ◌≤◌, Bool, true, false, ◌&&◌, eqb, leb, List, [], ◌∷◌, length, sym, refl, ap, ◌∙◌, arith, eq-eqb, eqb-true}
 use lib.Seq.{sets}
 use Rattle.laws.proofs.Test.{and_iff}
 use Rattle.shape.specs.declared.Reading.{Reading}
 use Rattle.shape.specs.declared.Reading.TheVariants.{Ring}
-use Rattle.shape.specs.Answers.{Question, must, Answer, gives, refused, asked, over, reading}
-use Rattle.shape.specs.Bytes.{number_at}
+use Rattle.shape.specs.Answers.{must, Answer, gives, refused, asked, over, reading}
 use Rattle.shape.specs.Coordinates.{grid_at}
 use Rattle.shape.specs.Reading.{coordinates, grids, count, order_at, length_at, head_asks, closes, polygon_asks, end, read_answer}
 use Rattle.shape.proofs.Asking.{passes, stops, stops_above, passes_below, ends, passes_all, stops_first}

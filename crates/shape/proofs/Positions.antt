@@ -1,5 +1,5 @@
 -- The writer's loops: positions put one after the other, a whole polygon, and coordinates in range. Assumes nothing.
-use Rattle.std.proofs.Common.{◌≡◌, ℕ, suc, ◌+◌, ◌-◌, ◌*◌, ◌<◌, ◌≤◌, Bool, true, false, not, ◌&&◌, eqb, leb, List, [], ◌∷◌, ◌++◌, length, get_or, drop, pos, sym, refl, ap, ◌∙◌, arith, drop_of_length-le, drop-cons, eqb-true, le-leb, leb-true}
+use Rattle.std.proofs.Common.{◌≡◌, ℕ, suc, ◌+◌, ◌-◌, ◌*◌, ◌<◌, ◌≤◌, Bool, true, false, not, ◌&&◌, eqb, leb, List, ◌++◌, length, get_or, drop, pos, sym, ap, ◌∙◌, arith, drop_of_length-le, drop-cons, eqb-true, le-leb, leb-true}
 use borrow.Rule.Slice.PartMut.{mid_of, put_mid}
 use borrow.Author.Tests.{lt-leb, not-false}
 use lib.Seq.{sets, length-sets}

@@ -1,8 +1,8 @@
 -- Fields or shapes one after another in plain logic: all are good, or the first bad one has its number and its place. Assumes nothing.
-use Rattle.std.proofs.Common.{◌≡◌, ℕ, zero, suc, ◌+◌, ◌*◌, ◌<◌, ◌≤◌, Bool, true, false, leb, List, [], ◌++◌, length, sym, refl, ap, ◌∙◌, subst, suc-le-suc, zero-le, le_of_suc-le-suc, arith, leb-false, leb-true}
+use Rattle.std.proofs.Common.{◌≡◌, ℕ, zero, suc, ◌+◌, ◌*◌, ◌<◌, ◌≤◌, true, false, leb, List, [], ◌++◌, length, sym, refl, ap, ◌∙◌, subst, suc-le-suc, zero-le, le_of_suc-le-suc, arith, leb-false, leb-true}
 use Rattle.shape.specs.declared.Coordinate.{Coordinate}
 use Rattle.shape.specs.declared.Coordinate.TheVariants.{Grid, OffGrid, NotFinite}
-use Rattle.shape.specs.Answers.{Question, Answer, gives, refused, asked}
+use Rattle.shape.specs.Answers.{Question, gives, refused, asked}
 use Rattle.shape.specs.Coordinates.{coordinate_at, refusal_of, on_grid}
 use Rattle.shape.specs.Reading.{run, coordinate_asks}
 use Rattle.shape.specs.Refusals.{Good, Bad, cut, not_finite, off_grid}

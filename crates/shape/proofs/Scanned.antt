@@ -1,12 +1,12 @@
 -- Coordinates one after another: what stands against them, and their grid numbers. Assumes nothing.
-use Rattle.std.proofs.Common.{◌≡◌, ℕ, zero, suc, ◌+◌, ◌-◌, ◌*◌, ◌<◌, ◌≤◌, Bool, true, false, not, leb, List, [], ◌∷◌, ◌++◌, length, drop, set, sym, refl, ap, ◌∙◌, add_assoc, arith, rules}
+use Rattle.std.proofs.Common.{◌≡◌, ℕ, zero, suc, ◌+◌, ◌-◌, ◌*◌, ◌<◌, ◌≤◌, true, false, List, [], ◌∷◌, ◌++◌, length, drop, set, sym, refl, ap, ◌∙◌, add_assoc, arith}
 use lib.Seq.{sets}
 use lib.Ieee.{Float}
 use Rattle.laws.proofs.Put.{put_front}
 use Rattle.shape.specs.declared.Coordinate.{Coordinate}
 use Rattle.shape.specs.declared.Coordinate.TheVariants.{Grid, OffGrid, NotFinite}
-use Rattle.shape.specs.Answers.{Question, must, Answer, gives, refused, asked, over}
-use Rattle.shape.specs.Coordinates.{coordinate, float_at, coordinate_at, refusal_of, grid_of, on_grid, grid_at}
+use Rattle.shape.specs.Answers.{Question, Answer, gives, refused, asked, over}
+use Rattle.shape.specs.Coordinates.{coordinate, float_at, coordinate_at, refusal_of, on_grid}
 use Rattle.shape.specs.Reading.{run, row, coordinate_asks, coordinates}
 use Rattle.shape.proofs.Asking.{stops, passes, stops_above, passes_below, ends, asked_both, and_then, fault}
 

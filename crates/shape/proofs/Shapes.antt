@@ -1,8 +1,8 @@
 -- What a shape begins with, exactly when: its byte order and type, and its count. One law for every shape. Assumes nothing.
-use Rattle.std.proofs.Common.{◌≡◌, ℕ, ◌+◌, ◌-◌, ◌<◌, ◌≤◌, Bool, true, false, ◌&&◌, eqb, leb, ◌⊎◌, List, [], ◌∷◌, length, sym, refl, ap, ◌∙◌, inl, inr, arith, eq-eqb, ne_eqb, eqb-true, le-leb, leb-false, leb-true}
+use Rattle.std.proofs.Common.{◌≡◌, ℕ, ◌+◌, ◌-◌, ◌≤◌, Bool, true, false, ◌&&◌, eqb, leb, ◌⊎◌, List, [], ◌∷◌, length, refl, ap, inl, inr, arith, eq-eqb, ne_eqb, eqb-true, le-leb, leb-false, leb-true}
 use borrow.Author.Tests.{lt-leb, eqb-false}
 use Rattle.laws.proofs.Test.{and_iff}
-use Rattle.shape.specs.Answers.{Question, must, Answer, gives, refused, asked}
+use Rattle.shape.specs.Answers.{Question, must, Answer, gives, refused}
 use Rattle.shape.specs.Bytes.{number_at}
 use Rattle.shape.specs.Coordinates.{whole}
 use Rattle.shape.specs.Reading.{order_at, type_asks, size_asks}

@@ -1,6 +1,5 @@
 -- Document 01, 'Polygon bytes': when each refusal is given and at which place, in plain logic. Assumes nothing.
 use Rattle.std.specs.Prelude.{◌≡◌, ℕ, ◌+◌, ◌-◌, ◌*◌, ◌<◌, ◌≤◌, ◌⊎◌, List, length, ◌≢◌, slice_index, Float}
-use Rattle.shape.specs.declared.Coordinate.{Coordinate}
 use Rattle.shape.specs.declared.Coordinate.TheVariants.{Grid, OffGrid, NotFinite}
 use Rattle.shape.specs.Bytes.{number_at}
 use Rattle.shape.specs.Coordinates.{coordinate_at, grid_at}

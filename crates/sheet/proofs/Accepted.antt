@@ -2,16 +2,13 @@
 use mathlib.Core.Path.{◌≡◌, refl, sym, ap}
 use mathlib.Core.Logic.{◌↔◌}
 use mathlib.Core.Bool.{Bool, true, false, true≢false}
-use Prim.Native.Nat.{ℕ, ◌+◌, ◌*◌, ◌%◌, ◌<◌, ◌≤◌}
+use Prim.Native.Nat.{ℕ, ◌<◌}
 use native.Mathlib.Omega.{arith}
-use lib.IntN.{pos}
-use lib.Signed.{◌<ℤ◌}
-use lib.ListN.{length, get_or}
+use lib.ListN.{length}
 use Rattle.laws.specs.First.{at_first}
 use Rattle.laws.proofs.Test.{plain, passed_iff}
 use Rattle.laws.proofs.Order.{level}
-use Rattle.sheet.specs.Plane.{turn, circle}
-use Rattle.sheet.specs.Office.{Office, points, sides, triangles, point, tail, head, rims}
+use Rattle.sheet.specs.Office.{Office, rims}
 use Rattle.sheet.specs.Verdict.{Verdict, accepted, refused, whenever, verdict}
 use Rattle.sheet.specs.Acceptable.{Acceptable, Single}
 use Rattle.sheet.proofs.OneRing.{one_ring_iff}

@@ -7,7 +7,7 @@ use lib.IntN.{ℤ, pos}
 use lib.Signed.{◌<ℤ◌}
 use Rattle.laws.proofs.Whole.{ring, meet}
 use Rattle.sheet.specs.Plane.{Point, turn}
-use Rattle.sheet.specs.Office.{Office, sides, triangles, tail, head, apex, area, next, last}
+use Rattle.sheet.specs.Office.{Office, sides, tail, head, apex, area, next, last}
 use Rattle.sheet.specs.Acceptable.{Left}
 use Rattle.sheet.proofs.Side.{Place, place, OneOf, same_triangle, head_next, head_last, next_below, last_below}
 

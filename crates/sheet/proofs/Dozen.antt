@@ -6,7 +6,7 @@ use mathlib.Core.List.{List, [], ◌∷◌, map}
 use Rattle.laws.specs.First.{first, at_first, count, walk, stepped, among, once}
 use Rattle.sheet.specs.Plane.{turn, squared, circle}
 use Rattle.sheet.specs.Office.{Office, office}
-use Rattle.sheet.specs.Verdict.{Verdict, accepted, refused, verdict}
+use Rattle.sheet.specs.Verdict.{accepted, refused, verdict}
 
 abbrev T : List ℕ → Office
 T corners = office (0 ∷ 4 ∷ 0 ∷ []) (0 ∷ 0 ∷ 3 ∷ []) corners

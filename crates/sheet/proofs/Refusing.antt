@@ -1,9 +1,9 @@
 -- Each refusal is given exactly when every rule before it is kept and its own breaks, at the lowest place. Assumes nothing.
-use mathlib.Core.Path.{◌≡◌, refl, sym, ap, ap₂, subst, ◌∙◌}
+use mathlib.Core.Path.{◌≡◌, refl, sym, ap, subst, ◌∙◌}
 use mathlib.Core.Logic.{◌↔◌, ◌⊎◌, inl, inr}
 use mathlib.Core.Bool.{Bool, true, false, true≢false, not, ◌||◌}
 use mathlib.Core.List.{List, [], ◌∷◌}
-use Prim.Native.Nat.{ℕ, ◌+◌, ◌*◌, ◌/◌, ◌%◌, ◌<◌, ◌≤◌}
+use Prim.Native.Nat.{ℕ, ◌+◌, ◌*◌, ◌/◌, ◌%◌, ◌<◌}
 use native.Mathlib.Decide.{ℕ_discrete}
 use native.Mathlib.Omega.{arith}
 use lib.IntN.{pos}
@@ -11,7 +11,7 @@ use lib.Signed.{lt_z, ◌<ℤ◌}
 use Rattle.laws.specs.First.{first, any, at_first}
 use Rattle.laws.proofs.Search.{first_is, first_hit, at_hit, at_none, first-none}
 use Rattle.laws.proofs.Test.{plain, any_iff, false_iff, not_iff, and_iff, or_iff, eqb_iff, ltb_iff, leb_iff, less_iff}
-use Rattle.sheet.specs.Office.{Office, points, sides, triangles, area, double, one_ring, same_side, tail, head, rims}
+use Rattle.sheet.specs.Office.{Office, points, sides, triangles, area, double, same_side, tail, head, rims}
 use Rattle.sheet.specs.Verdict.{Verdict, accepted, refused, whenever, verdict}
 use Rattle.sheet.specs.Acceptable.{Single}
 use Rattle.sheet.specs.Rules.{Rule, Lowest, Kept, Given, once, rules}

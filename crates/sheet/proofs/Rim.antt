@@ -2,7 +2,7 @@
 use mathlib.Core.Path.{◌≡◌}
 use mathlib.Core.Logic.{◌↔◌}
 use mathlib.Core.Bool.{true}
-use Prim.Native.Nat.{ℕ, ◌<◌}
+use Prim.Native.Nat.{ℕ}
 use Rattle.laws.proofs.Test.{plain}
 use Rattle.laws.specs.Round.{Runs}
 use Rattle.sheet.specs.Office.{Office, sides, tail, head, rim}

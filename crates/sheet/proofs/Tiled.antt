@@ -1,6 +1,6 @@
 -- An acceptable office is a tiling. Assumes nothing.
 use mathlib.Core.Path.{◌≡◌, refl, sym, ◌∙◌}
-use Prim.Native.Nat.{ℕ, ◌+◌, ◌<◌}
+use Prim.Native.Nat.{ℕ, ◌<◌}
 use Rattle.laws.proofs.Round.{same_way}
 use Rattle.laws.specs.Round.{Round}
 use Rattle.sheet.specs.Office.{Office, sides, tail, head}

@@ -4,7 +4,7 @@ use mathlib.Core.Bool.{Bool}
 use native.Mathlib.Omega.{arith}
 use Prim.Native.Nat.{ℕ}
 use Rattle.sheet.specs.Office.{Office}
-use Rattle.sheet.specs.Verdict.{Verdict, verdict}
+use Rattle.sheet.specs.Verdict.{verdict}
 use Rattle.sheet.specs.Answer.{answer}
 use Rattle.sheet.specs.declared.Refusal.{Refusal}
 use Rattle.sheet.specs.declared.Checked.{Checked}

@@ -1,10 +1,6 @@
 -- `listing::parse` meets its contract. Assumes nothing.
-use Prim.Native.Nat.{◌+◌, ◌*◌}
-use mathlib.Core.Path.{◌≡◌, ◌∙◌}
 use native.Mathlib.Omega.{arith}
 use borrow.Author.Rules.{rules}
-use borrow.Author.Tests.{not-true, not-false}
-use lib.ListN.{length}
 use Rattle.listing.proofs.Parsing.{after_refusal, after_none, after_short, after_office, rooms, seen_counts, seen_refusal}
 use Rattle.listing.proofs.parse.Statement.{statement}
 use Rattle.listing.proofs.parse.Tie as tie

@@ -5,7 +5,6 @@ use native.Mathlib.Decide.{dec_lt}
 use native.Mathlib.Omega.{arith}
 use borrow.Author.Rules.{rules}
 use Rattle.laws.proofs.Search.{at_hit, at_none}
-use Rattle.laws.proofs.Test.{false_iff, not_iff, kept_iff}
 use Rattle.sheet.specs.Office.{Office, office, triangles}
 use Rattle.sheet.specs.Acceptable.{Single}
 use Rattle.sheet.specs.Answer.{answer}

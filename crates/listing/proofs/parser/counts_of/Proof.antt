@@ -1,12 +1,12 @@
 -- `listing::parser::counts_of` meets its contract: each early return is refusal 40. Assumes nothing.
-use Prim.Native.Nat.{ℕ, ◌+◌, ◌*◌, ◌≤◌}
+use Prim.Native.Nat.{ℕ, ◌≤◌}
 use mathlib.Core.Path.{◌≡◌, refl, sym, ap, ap₂, ◌∙◌}
 use mathlib.Core.List.{List}
 use mathlib.Core.Option.{Option, some}
 use native.Mathlib.Omega.{arith}
 use borrow.Author.Rules.{rules}
 use Rattle.listing.specs.declared.parser.Numbers.{Numbers}
-use Rattle.listing.specs.declared.parser.Numbers.TheVariants.{Count, Fault}
+use Rattle.listing.specs.declared.parser.Numbers.TheVariants.{Count}
 use Rattle.listing.specs.Code.{told, Within, laid}
 use Rattle.listing.proofs.Laying.{too_long, no_numbers, too_few, wrong_count, right_count}
 use Rattle.listing.proofs.parser.counts_of.Statement.{statement}

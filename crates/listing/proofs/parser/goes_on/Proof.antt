@@ -1,7 +1,7 @@
 -- `listing::parser::goes_on` meets its contract. Assumes nothing.
 use mathlib.Core.Path.{sym, ◌∙◌}
 use borrow.Author.Rules.{rules}
-use borrow.Author.Tests.{leb-true, not-true, not-false}
+use borrow.Author.Tests.{leb-true}
 use Rattle.laws.proofs.Test.{and_iff}
 use Rattle.listing.proofs.parser.goes_on.Statement.{statement}
 use Rattle.listing.proofs.parser.goes_on.Tie as tie

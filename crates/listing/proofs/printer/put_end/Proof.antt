@@ -1,6 +1,5 @@
 -- `listing::printer::put_end` meets its contract. Assumes nothing.
 use borrow.Author.Rules.{rules}
-use mathlib.Core.Path.{refl}
 use Rattle.listing.specs.Line.{onward}
 use Rattle.listing.proofs.Putting.{put_one}
 use Rattle.listing.proofs.printer.put_end.Statement.{statement}

@@ -1,9 +1,8 @@
 -- `listing::printer::put_number` meets its contract. The loop's invariant: what is left to spell, before the digits put so far, spells the number.
 -- Assumes nothing.
 use Prim.Native.Nat.{◌+◌, ◌-◌, ◌%◌, ◌^◌, ◌≤◌, ◌<◌}
-use mathlib.Core.Path.{◌≡◌, refl, sym, ap, ◌∙◌}
+use mathlib.Core.Path.{◌≡◌, refl, ◌∙◌}
 use native.Mathlib.Omega.{arith}
-use borrow.Author.Rules.{rules}
 use lib.ListN.{length, drop, length-set}
 use Rattle.listing.specs.Line.{spelled, decimal}
 use Rattle.listing.proofs.Putting.{put_same}

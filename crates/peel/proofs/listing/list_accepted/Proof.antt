@@ -1,6 +1,5 @@
 -- `peel::listing::list_accepted` meets its contract. Assumes nothing.
 use mathlib.Core.Path.{◌∙◌}
-use borrow.Author.Rules.{rules}
 use Rattle.sheet.specs.Office.{office}
 use Rattle.peel.proofs.Outlining.{drawn_all, enough, written_all}
 use Rattle.peel.proofs.listing.list_accepted.Statement.{statement}

@@ -1,6 +1,5 @@
 -- `rim::keys::spot_at` meets its contract: a corner of an acceptable office has coordinates of 14 bits. Assumes nothing.
 use native.Mathlib.Omega.{arith}
-use Rattle.sheet.specs.Office.{office, tail}
 use Rattle.rim.proofs.keys.spot_at.Goals as goal
 
 pub returns : goal.returns

@@ -1,8 +1,7 @@
 -- `rim::queue::push` meets its contract. Assumes nothing.
 use native.Mathlib.Omega.{arith}
-use Rattle.sheet.specs.Office.{office}
 use Rattle.rim.proofs.Ranked.{up, not_up}
-use Rattle.rim.proofs.Rising.{Rising, rise_begins, rises, settles}
+use Rattle.rim.proofs.Rising.{rise_begins, rises, settles}
 use Rattle.rim.proofs.queue.push.Goals as goal
 use Rattle.rim.proofs.queue.push.Goals.{else-loop-i-test, then-loop-i-test+then-not-up}
 

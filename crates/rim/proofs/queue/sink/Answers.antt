@@ -1,9 +1,7 @@
 -- `rim::queue::sink` meets its contract. Assumes nothing.
-use Prim.Native.Nat.{◌-◌}
 use native.Mathlib.Omega.{arith}
-use Rattle.sheet.specs.Office.{office}
 use Rattle.rim.proofs.Ranked.{up, not_up}
-use Rattle.rim.proofs.Sinking.{Sinking, sink_begins, sinks, stays_last, stays_over}
+use Rattle.rim.proofs.Sinking.{sink_begins, sinks, stays_last, stays_over}
 use Rattle.rim.proofs.queue.sink.Goals as goal
 use Rattle.rim.proofs.queue.sink.Goals.{else-loop-c-test, then-loop-c-test+then-not-up}
 

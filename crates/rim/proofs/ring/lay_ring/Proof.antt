@@ -23,11 +23,10 @@ cast-write-ring c =
     omega (arith, (first_is (λ p. eqb (get_or c.args.rim.now p 0) 1) (length c.args.xs.now)).within, c.lowest_marked-low.ensures, c.requires.0.held.acceptable.points_bound)
 
 write-ring-requires : tie.Need-write_ring-requires
-write-ring-requires c κs =
-    (
-      (numbered c.before.before.before.before.before.before.before.before.before.before, ringlike _ _ _ _ _ _ _ _ _ c.requires.0),
-      (c.links-link.ensures, (low_leaves _ _ _ _ _ _ _ _ _ c.requires.0 _ c.lowest_marked-low.ensures, omega (arith, count_fits _ _ _ _ _ _ _ _ _ c.requires.0, c.requires.1))),
-    )
+write-ring-requires c κs = (
+  (numbered c.before.before.before.before.before.before.before.before.before.before, ringlike _ _ _ _ _ _ _ _ _ c.requires.0),
+  (c.links-link.ensures, (low_leaves _ _ _ _ _ _ _ _ _ c.requires.0 _ c.lowest_marked-low.ensures, omega (arith, count_fits _ _ _ _ _ _ _ _ _ c.requires.0, c.requires.1))),
+)
 
 returns : tie.Need-returns
 returns c = ring_written _ _ _ _ _ _ _ _ _ c.requires.0 _ _ _ c.requires.1 c.lowest_marked-low.ensures c.write_ring.ensures

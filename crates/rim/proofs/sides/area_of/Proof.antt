@@ -40,8 +40,7 @@ area_of_spec =
     (λ c κs. x_there c.requires.0 _ (there c.before.before.before.before.before.before.before 2 (omega arith)))
     (λ c. search rules)
     (λ c κs. y_there c.requires.0 _ (there c.before.before.before.before.before.before.before.before 2 (omega arith)))
-    (λ c κs.
-    (
+    (λ c κs. (
       (
         small_there c.requires.0 _ (first c.before.before.before.before.before.before.before.before.before) c.at_corner.ensures c.at_corner-2.ensures,
         small_there c.requires.0 _ (there c.before.before.before.before.before.before.before.before.before 1 (omega arith)) c.at_corner-3.ensures c.at_corner-4.ensures,

@@ -15,8 +15,7 @@ side_squared_spec =
     (λ c κs. y_there c.requires.0 _ c.requires.1)
     (λ c κs. x_there c.requires.0 _ (end_there c.requires.0 _ c.requires.1))
     (λ c κs. y_there c.requires.0 _ (end_there c.requires.0 _ c.requires.1))
-    (λ c κs.
-    (
+    (λ c κs. (
       small_there c.requires.0 _ c.requires.1 c.at_corner.ensures c.at_corner-2.ensures,
       small_there c.requires.0 _ (end_there c.requires.0 _ c.requires.1) c.at_corner-3.ensures c.at_corner-4.ensures,
     ))

@@ -16,12 +16,11 @@ abbrev decreases-loop : tie.decreases-loop-i
 decreases-loop list₀ n v i₀ list i = n - i
 
 loop-again : tie.Need-loop-i-preserved invariant-loop decreases-loop
-loop-again c =
-    (
-      omega arith,
-      length-set c.loop-i.list c.loop-i.i c.args.v ∙ c.loop-i.invariant.1,
-      ap (λ l. set l c.loop-i.i c.args.v) c.loop-i.invariant.2 ∙ fill_more c.loop-i.i c.args.v c.args.list.now (omega arith),
-    )
+loop-again c = (
+  omega arith,
+  length-set c.loop-i.list c.loop-i.i c.args.v ∙ c.loop-i.invariant.1,
+  ap (λ l. set l c.loop-i.i c.args.v) c.loop-i.invariant.2 ∙ fill_more c.loop-i.i c.args.v c.args.list.now (omega arith),
+)
 
 returns : tie.Need-returns invariant-loop decreases-loop
 returns c =

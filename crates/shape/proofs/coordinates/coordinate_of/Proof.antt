@@ -1,7 +1,7 @@
 -- `shape::coordinates::coordinate_of` meets its contract.
-use Rattle.std.proofs.Common.{◌≡◌, T, sym, ap, ◌∙◌, subst, lit≤, rules}
-use lib.Ieee.{of_bits, nan_bits, in_unsigned, binary64}
-use Rattle.shape.specs.declared.Coordinate.TheVariants.{Grid, OffGrid, NotFinite}
+use Rattle.std.proofs.Common.{sym, ap, ◌∙◌, lit≤, rules}
+use lib.Ieee.{of_bits, nan_bits}
+use Rattle.shape.specs.declared.Coordinate.TheVariants.{Grid}
 use Rattle.shape.proofs.Floats.{holds, at_width}
 use Rattle.shape.proofs.Judgements.{judged_grid, judged_off, judged_high, judged_low}
 use Rattle.shape.proofs.coordinates.coordinate_of.Statement.{statement}

@@ -1,5 +1,5 @@
 -- `shape::coordinates::float_of` meets its contract: a pattern whose part below the sign is above that of an infinity is a NaN's.
-use Rattle.std.proofs.Common.{◌≡◌, not, T, sym, ap, ◌∙◌, subst, rules, le-ltb, lt-ltb}
+use Rattle.std.proofs.Common.{sym, ◌∙◌, rules, le-ltb, lt-ltb}
 use lib.Ieee.{binary64, of_bits, div}
 use lib.Ieee.Bits.{nan_bits_above}
 use Rattle.shape.proofs.Floats.{nan_of}

@@ -1,6 +1,5 @@
 -- `shape::coordinates::on_grid` meets its contract: the float of the whole part has x's own pattern just where x is on the grid (`patterns`),
 -- and a float on the grid passes both tests (`above`, `below`).
-use Rattle.std.proofs.Common.{◌≡◌, Bool, T, eqb, pos, sym, ap, ◌∙◌, subst}
 use lib.Ieee.{of_bits, neg, to_bits, of_int, binary64, in_unsigned}
 use Rattle.shape.proofs.Floats.{holds, fails, no_test, small_fits, comes_back, finite_no_nan, above, below, looser, part_lt, lt_no_nan, patterns}
 use Rattle.shape.proofs.coordinates.on_grid.Statement.{statement}

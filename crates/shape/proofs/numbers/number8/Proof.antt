@@ -1,5 +1,5 @@
 -- `shape::numbers::number8` meets its contract: the two halves, in the order that the byte order says.
-use Rattle.std.proofs.Common.{sym, ◌∙◌, rules, ne_eqb}
+use Rattle.std.proofs.Common.{rules, ne_eqb}
 use Rattle.shape.proofs.Octets.{high8, low8}
 use Rattle.shape.proofs.numbers.number8.Statement.{statement}
 use Rattle.shape.proofs.numbers.number8.Tie as tie

@@ -1,5 +1,5 @@
 -- `shape::numbers::put8` meets its contract.
-use Rattle.std.proofs.Common.{◌≡◌, ℕ, ◌+◌, ◌/◌, List, ap, ◌∙◌, rules}
+use Rattle.std.proofs.Common.{ℕ, ◌+◌, ◌/◌, List, ap, ◌∙◌, rules}
 use lib.Seq.{sets}
 use Rattle.shape.specs.Bytes.{low_bytes}
 use Rattle.shape.proofs.Octets.{put_eight}

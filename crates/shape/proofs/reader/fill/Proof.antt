@@ -1,5 +1,5 @@
 -- `shape::reader::fill` meets its contract. The loop's invariant: what is left to fill makes the lists what the whole makes of them.
-use Rattle.std.proofs.Common.{◌≡◌, ℕ, ◌+◌, ◌-◌, ◌*◌, ◌≤◌, length, sym, refl, ap, ◌∙◌, arith, rules}
+use Rattle.std.proofs.Common.{◌≡◌, ℕ, ◌+◌, ◌-◌, ◌*◌, ◌≤◌, length, refl, ap, ◌∙◌, arith}
 use lib.Seq.{sets}
 use Rattle.shape.specs.Coordinates.{grid_at}
 use Rattle.shape.specs.Reading.{grids}

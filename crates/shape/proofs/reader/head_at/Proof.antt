@@ -1,5 +1,5 @@
 -- `shape::reader::head_at` meets its contract: the byte order and the type, then the counts.
-use Rattle.std.proofs.Common.{◌≡◌, ℕ, ◌+◌, ◌-◌, ◌≤◌, length, sym, refl, ap, ◌∙◌, arith, rules}
+use Rattle.std.proofs.Common.{ℕ, ◌+◌, ◌-◌, ◌≤◌, length, sym, refl, ap, ◌∙◌, arith, rules}
 use Rattle.shape.specs.Answers.{gives, faulty}
 use Rattle.shape.specs.Reading.{order_at, length_at, type_asks, count_asks}
 use Rattle.shape.proofs.Asking.{stops_first, passes_all, refused_other}

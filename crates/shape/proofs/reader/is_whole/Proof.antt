@@ -1,5 +1,5 @@
 -- `shape::reader::is_whole` meets its contract: the difference does not wrap where the sum might.
-use Rattle.std.proofs.Common.{◌≡◌, ◌+◌, length, sym, arith, rules}
+use Rattle.std.proofs.Common.{◌+◌, length, sym, arith, rules}
 use borrow.Author.Tests.{lt-leb}
 use Rattle.laws.proofs.Test.{same_answer, plain}
 use Rattle.shape.proofs.reader.is_whole.Statement.{statement}

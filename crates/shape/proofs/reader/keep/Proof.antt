@@ -1,5 +1,5 @@
 -- `shape::reader::keep` meets its contract.
-use Rattle.std.proofs.Common.{ℕ, ◌+◌, set, ap, ◌∙◌, rules}
+use Rattle.std.proofs.Common.{set, ap, ◌∙◌, rules}
 use lib.Ieee.{Float}
 use Rattle.shape.specs.Coordinates.{coordinate, grid_of}
 use Rattle.shape.proofs.reader.keep.Statement.{statement}

@@ -1,6 +1,5 @@
 -- `shape::reader::polygon_at` meets its contract: the head, the positions, and the last of them.
-use Rattle.std.proofs.Common.{◌≡◌, ℕ, ◌+◌, ◌*◌, ◌≤◌, length, sym, refl, ap, ◌∙◌, arith, rules}
-use borrow.Author.Tests.{not-true, not-false}
+use Rattle.std.proofs.Common.{◌+◌, ◌*◌, sym, ap, ◌∙◌, arith, rules}
 use Rattle.shape.specs.Answers.{reading, faulty}
 use Rattle.shape.specs.Reading.{order_at, length_at, head_asks}
 use Rattle.shape.proofs.Asking.{stops_first}

@@ -1,5 +1,5 @@
 -- `shape::reader::scan` meets its contract. The loop's invariant: what is left to look at from `place` on has the fault of the whole.
-use Rattle.std.proofs.Common.{◌≡◌, ℕ, ◌+◌, ◌-◌, ◌*◌, ◌≤◌, List, length, sym, refl, ap, ◌∙◌, arith, rules}
+use Rattle.std.proofs.Common.{◌≡◌, ℕ, ◌-◌, ◌*◌, ◌≤◌, List, length, sym, ap, ◌∙◌, arith, rules}
 use Rattle.shape.specs.Answers.{Question, asked, faulty}
 use Rattle.shape.specs.Reading.{coordinates}
 use Rattle.shape.proofs.Scanned.{ran, scanned, stop, go_on, ran_end, positions_asked}

@@ -1,5 +1,5 @@
 -- `shape::writer::is_low` meets its contract. The loop's invariant: what is left is low just where the whole is.
-use Rattle.std.proofs.Common.{◌≡◌, ℕ, ◌+◌, ◌-◌, ◌≤◌, length, drop, sym, refl, ap, ◌∙◌, arith}
+use Rattle.std.proofs.Common.{◌≡◌, ◌-◌, ◌≤◌, length, drop, sym, refl, ◌∙◌, arith}
 use Rattle.shape.specs.Writing.{low}
 use Rattle.shape.proofs.Positions.{low_high, low_on, low_end}
 use Rattle.shape.proofs.writer.is_low.Statement.{statement}

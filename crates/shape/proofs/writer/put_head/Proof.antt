@@ -1,5 +1,5 @@
 -- `shape::writer::put_head` meets its contract.
-use Rattle.std.proofs.Common.{◌≡◌, ℕ, ◌+◌, List, set, ap, ◌∙◌, arith, length-set, rules}
+use Rattle.std.proofs.Common.{ℕ, ◌+◌, List, set, ap, ◌∙◌, arith, length-set, rules}
 use lib.Seq.{sets}
 use Rattle.shape.specs.Bytes.{low_bytes}
 use Rattle.shape.proofs.Octets.{put_head_next}

@@ -1,5 +1,5 @@
 -- `shape::writer::put_position` meets its contract.
-use Rattle.std.proofs.Common.{◌≡◌, ℕ, ◌+◌, List, ap, ◌∙◌, rules}
+use Rattle.std.proofs.Common.{ℕ, ◌+◌, List, ap, ◌∙◌, rules}
 use lib.Seq.{sets}
 use lib.Ieee.{to_bits, binary64}
 use Rattle.shape.specs.Bytes.{low_bytes}

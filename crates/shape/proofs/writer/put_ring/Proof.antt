@@ -1,5 +1,5 @@
 -- `shape::writer::put_ring` meets its contract. The loop's invariant: what is left to put makes the output what the whole makes of it.
-use Rattle.std.proofs.Common.{◌≡◌, ℕ, ◌+◌, ◌-◌, ◌*◌, ◌≤◌, length, drop, sym, refl, ap, ◌∙◌, arith, rules}
+use Rattle.std.proofs.Common.{◌≡◌, ◌-◌, ◌*◌, ◌≤◌, length, drop, refl, ◌∙◌, arith, rules}
 use lib.Seq.{sets}
 use Rattle.shape.specs.Writing.{positions}
 use Rattle.shape.proofs.Floats.{number_no_nan}

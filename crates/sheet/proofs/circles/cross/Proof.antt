@@ -1,8 +1,6 @@
 -- `sheet::circles::cross` meets its contract: the numbers of its code, in the code's order. Assumes nothing.
 use mathlib.Core.Path.{sym, subst}
 use Prim.Native.Nat.{◌≤◌}
-use native.Mathlib.Omega.{arith}
-use native.Mathlib.Nat.{le_trans}
 use lib.IntN.{nat_abs}
 use borrow.Author.Rules.{rules}
 use mir.Syntax.{w64}

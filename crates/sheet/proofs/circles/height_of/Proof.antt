@@ -2,7 +2,6 @@
 use mathlib.Core.Path.{refl}
 use native.Mathlib.Omega.{arith}
 use native.Mathlib.Nat.{mul-le-mul}
-use borrow.Author.Rules.{rules}
 use Rattle.sheet.proofs.circles.height_of.Statement.{statement}
 use Rattle.sheet.proofs.circles.height_of.Tie as tie
 

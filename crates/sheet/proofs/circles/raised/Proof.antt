@@ -1,6 +1,5 @@
 -- `sheet::circles::raised` meets its contract: the numbers of its code, in the code's order. Assumes nothing.
 use mathlib.Core.Path.{sym, subst, ap, ◌∙◌}
-use native.Mathlib.Omega.{arith}
 use Prim.Native.Nat.{◌≤◌}
 use lib.IntN.{pos, nat_abs}
 use borrow.Author.Rules.{rules}

@@ -1,5 +1,4 @@
 -- `sheet::circles::weighted` meets its contract: the numbers of its code, in the code's order. Assumes nothing.
-use borrow.Author.Rules.{rules}
 use mir.Syntax.{w64}
 use Rattle.laws.proofs.Exact.{Num, held, plus, times}
 use Rattle.sheet.proofs.circles.weighted.Statement.{statement}

@@ -5,7 +5,6 @@ use Prim.Native.Nat.{◌-◌}
 use borrow.Author.Rules.{rules}
 use lib.ListN.{length}
 use Rattle.laws.specs.First.{final}
-use Rattle.laws.proofs.Test.{false_iff, not_iff, kept_iff}
 use Rattle.sheet.specs.Code.{starts}
 use Rattle.sheet.proofs.Pairing.{Paired, pairs_none, pairs_one, pairs_all}
 use Rattle.sheet.proofs.sides.pair_sides.Statement.{statement}
