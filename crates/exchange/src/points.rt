@@ -33,7 +33,8 @@ fn point_fault(s: &[u8], at: usize) -> Fault
     if let Fault::At(_) = f {
         return f;
     }
-    let order = s[at];
+    let own = at;
+    let order = s[own];
     reader::position_fault(s, order, at + 5)
 }
 

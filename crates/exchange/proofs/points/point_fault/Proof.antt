@@ -26,7 +26,7 @@ returns c =
 enum-told-2 : tie.Need-enum_told-in_default
 enum-told-2 c = search rules
 
-shared-slice-read-order : tie.Need-bounds-s-at
+shared-slice-read-order : tie.Need-bounds-s-own
 shared-slice-read-order c =
     let a = c.args in
     let h = typed a.s.now a.at 1 33 (sym (ap faulty c.in_default.is) ∙ c.type_fault-f.ensures) in
