@@ -10,7 +10,7 @@ use Rattle.laws.specs.First.{table}
 use Rattle.laws.specs.Round.{Round, rotated}
 use Rattle.laws.proofs.Order.{level}
 use Rattle.laws.proofs.Round.{early, same_way}
-use Rattle.laws.proofs.Fill.{length-table, get_d_table}
+use Rattle.laws.proofs.Fill.{length-table, get_or-table}
 
 module _ {Step : ℕ → ℕ → Type 0} {m k : ℕ} (c : Round Step m) (r : Round Step k) where
   pub one_round : (j : ℕ) × (j < m) × ((i : ℕ) → r.at i ≡ c.at (j + i))
@@ -42,7 +42,7 @@ map-table f at zero = refl
 map-table f at (suc m) = ap (λ l. f (at zero) ∷ l) (map-table f (λ i. at (suc i)) m)
 
 pub rotated-table : (at : ℕ → ℕ) (m j : ℕ) → j ≤ m → ((i : ℕ) → at (i + m) ≡ at i) → rotated j (table at m) ≡ table (λ i. at (j + i)) m
-rotated-table at m j l back = ext_get_or 0 (rotated j T) (table (λ i. at (j + i)) m) (size ∙ sym (length-table (λ i. at (j + i)) m)) (λ i b. holds i (rw size at b) ∙ sym (get_d_table (λ i. at (j + i)) m i (rw size at b)))
+rotated-table at m j l back = ext_get_or 0 (rotated j T) (table (λ i. at (j + i)) m) (size ∙ sym (length-table (λ i. at (j + i)) m)) (λ i b. holds i (rw size at b) ∙ sym (get_or-table (λ i. at (j + i)) m i (rw size at b)))
   where
     T : List ℕ
     T = table at m
@@ -58,12 +58,12 @@ rotated-table at m j l back = ext_get_or 0 (rotated j T) (table (λ i. at (j + i
 
     holds : (i : ℕ) → i < m → get_or (rotated j T) i 0 ≡ at (j + i)
     holds i b = elim (dec_lt i (m - j)) [
-      | yes h ↦ get_or-append (drop j T) (take j T) 0 i (rw front h) ∙ get_or-drop j T i 0 ∙ get_d_table at m (j + i) (omega arith)
+      | yes h ↦ get_or-append (drop j T) (take j T) 0 i (rw front h) ∙ get_or-drop j T i 0 ∙ get_or-table at m (j + i) (omega arith)
       | no f ↦ (let x = i - (m - j) in
           ap (λ i. get_or (rotated j T) i 0) (let z = front in omega arith)
           ∙ get_or-append-add (drop j T) (take j T) x 0
           ∙ get_or-take j T x 0 (omega arith)
-          ∙ get_d_table at m x (omega arith)
+          ∙ get_or-table at m x (omega arith)
           ∙ sym (back x)
           ∙ ap at (omega arith))
     ]

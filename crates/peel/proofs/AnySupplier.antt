@@ -7,7 +7,7 @@ use native.Mathlib.Decide.{dec_lt}
 use native.Mathlib.Omega.{arith}
 use Rattle.laws.specs.First.{table}
 use Rattle.laws.specs.Round.{Round}
-use Rattle.laws.proofs.Fill.{length-table, get_d_table}
+use Rattle.laws.proofs.Fill.{length-table, get_or-table}
 use Rattle.laws.proofs.Round.{apart_early}
 use Rattle.laws.proofs.OneRound.{map-table, rotated-table}
 use Rattle.sheet.specs.Office.{Office}
@@ -29,8 +29,8 @@ module _ {Step : ℕ → ℕ → Type 0} {m : ℕ} (r : Round Step m) (low : Low
   from_lowest : (i : ℕ) → i < m → LowestFirst (table (λ j. r.at (i + j)) m) → i ≡ 0
   from_lowest i l low' = elim (dec_lt 0 i) [
     | yes b ↦ apart_early r i 0 l r.long (le_antisymm
-        (rw (get_d_table turn m 0 r.long, get_d_table turn m (m - i) (omega arith), here, there) at (low' (m - i) (rw (length-table turn m) (omega arith))))
-        (rw (get_d_table r.at m 0 r.long, get_d_table r.at m i l) at (low i (rw (length-table r.at m) l))))
+        (rw (get_or-table turn m 0 r.long, get_or-table turn m (m - i) (omega arith), here, there) at (low' (m - i) (rw (length-table turn m) (omega arith))))
+        (rw (get_or-table r.at m 0 r.long, get_or-table r.at m i l) at (low i (rw (length-table r.at m) l))))
     | no f ↦ omega arith
   ]
     where

@@ -7,7 +7,7 @@ use native.Mathlib.Omega.{arith}
 use lib.ListN.{length, get_or, take, drop, length-map}
 use lib.Seq.{take_at}
 use Rattle.laws.proofs.Test.{plain}
-use Rattle.laws.proofs.Fill.{length-table, get_d_table}
+use Rattle.laws.proofs.Fill.{length-table, get_or-table}
 use Rattle.sheet.specs.Office.{Office, office, points}
 use Rattle.sheet.specs.Acceptable.{Acceptable}
 use Rattle.sheet.specs.Verdict.{Verdict, accepted, refused, verdict}
@@ -64,7 +64,7 @@ module _ {xs ys corners list least number : List ℕ} {r : Answer} {list' least'
       record {
         acceptable = a;
         room = (x, y, z);
-        each = λ p l. subst (Indexed o p) (sym (one.front p (let q = length-table (index o) (points o) in omega arith) ∙ get_d_table (index o) (points o) p l)) (indexed a p);
+        each = λ p l. subst (Indexed o p) (sym (one.front p (let q = length-table (index o) (points o) in omega arith) ∙ get_or-table (index o) (points o) p l)) (indexed a p);
         pairs_are = refl;
         falling = subst Falling (sym front) (limits_fall a);
         looks_up = λ limit.

@@ -10,7 +10,7 @@ use lib.Dec.{eqb}
 use lib.ListN.{length, get_or, set, take, drop, length-set, take-append-drop}
 use lib.Seq.{get_or-set_same, get_or-set_other, get_or-take, drop-set-lt, length-take-le, ext_get_or}
 use Rattle.laws.proofs.Test.{false_iff, or_iff, neither_iff, eqb_iff}
-use Rattle.laws.proofs.Fill.{length-table, get_d_table}
+use Rattle.laws.proofs.Fill.{length-table, get_or-table}
 use Rattle.sheet.specs.Office.{Office, points, sides, triangles, apex, last}
 use Rattle.sheet.specs.Acceptable.{Acceptable}
 use Rattle.sheet.proofs.Side.{last_below}
@@ -115,7 +115,7 @@ module _ {o : Office} {lent : List ℕ} where
             let z = length-take-le (points o) list h.room in
             let w = length-table (index o) (points o) in
             ext_get_or 0 (take (points o) list) (indices o) (z ∙ sym w)
-            (λ p l. get_or-take (points o) list p 0 (omega arith) ∙ at p (omega arith) (on_rim o k p) refl ∙ sym (get_d_table (index o) (points o) p (omega arith)))
+            (λ p l. get_or-take (points o) list p 0 (omega arith) ∙ at p (omega arith) (on_rim o k p) refl ∙ sym (get_or-table (index o) (points o) p (omega arith)))
 
 -- what answers the needs of such a loop
 pub ruleset index_pass = (indexing_starts, indexing_peels, indexing_ends)

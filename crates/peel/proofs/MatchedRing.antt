@@ -9,7 +9,7 @@ use lib.ListN.{get_or}
 use Rattle.laws.specs.First.{table}
 use Rattle.laws.proofs.Bijection.{renamed_round, renamed_at}
 use Rattle.laws.specs.Round.{Round, rotated}
-use Rattle.laws.proofs.Fill.{length-table, get_d_table}
+use Rattle.laws.proofs.Fill.{length-table, get_or-table}
 use Rattle.laws.proofs.OneRound.{one_round, one_length, map-table, rotated-table}
 use Rattle.sheet.specs.Office.{Office, rims as hull_sides}
 use Rattle.sheet.proofs.Matched.{Matched, turned_back, named, moved, head_moved, each_side}
@@ -47,7 +47,7 @@ ring_lowest {o} {x} {k} a h = subst LowestFirst (sym w.reads) lowest
     lowest i b =
         let c : i < m = rw (length-table w.round.at m) at b in
         let (s, l, t, e, _) = w.round.goes i in
-        rw (get_d_table w.round.at m 0 (omega arith), get_d_table w.round.at m i c) (w.lowest (w.round.at i) ((on_rim_iff o k (w.round.at i)).1 (s, l, inl e, (rim_iff o k s).0 t)))
+        rw (get_or-table w.round.at m 0 (omega arith), get_or-table w.round.at m i c) (w.lowest (w.round.at i) ((on_rim_iff o k (w.round.at i)).1 (s, l, inl e, (rim_iff o k s).0 t)))
 
 module _ {o n : Office} (re : Matched o n) (a : Acceptable o) where
   pub ring_carried : {x y : ℕ} {k j : List ℕ} → Sound o x k → Sound n y j → Carried re k j → Turned (named re) (ring o k) (ring n j)

@@ -8,7 +8,7 @@ use native.Mathlib.Omega.{arith}
 use lib.ListN.{length, get_or, drop, length-map, get_or-append}
 use Rattle.laws.specs.First.{table}
 use Rattle.laws.specs.Round.{rotated}
-use Rattle.laws.proofs.Fill.{length-table, get_d_table}
+use Rattle.laws.proofs.Fill.{length-table, get_or-table}
 use Rattle.laws.proofs.OneRound.{length-rotated}
 use Rattle.sheet.specs.Office.{Office, office, points, triangles, rims as hull_sides}
 use Rattle.sheet.specs.Acceptable.{Acceptable}
@@ -46,7 +46,7 @@ module _ {o : Office} (a : Acceptable o) (limit : ℕ) {kept rim round kept' rim
   rim_at : (p : ℕ) → p < points o → get_or rim' p 0 ≡ mark (on_rim o (drawn o limit) p)
   rim_at p l =
       let rule : ℕ → ℕ = λ p. mark (on_rim o (drawn o limit) p) in
-      ap (λ l. get_or l p 0) h.on ∙ get_or-append (table rule (points o)) (drop (points o) rim) 0 p (let z = length-table rule (points o) in omega arith) ∙ get_d_table rule (points o) p l
+      ap (λ l. get_or l p 0) h.on ∙ get_or-append (table rule (points o)) (drop (points o) rim) 0 p (let z = length-table rule (points o) in omega arith) ∙ get_or-table rule (points o) p l
 
   ring_used : used round' (rims o (drawn o limit)) ≡ ring o (drawn o limit)
   ring_used = ap (λ l. used l (rims o (drawn o limit))) h.goes ∙ used_front (ring o (drawn o limit)) (drop (rims o (drawn o limit)) round) (rims o (drawn o limit)) (ring_sides o (drawn o limit))

@@ -7,7 +7,7 @@ use Prim.Native.Nat.{ℕ, ◌+◌, ◌%◌, ◌<◌}
 use native.Mathlib.Nat.{mod-lt}
 use native.Mathlib.Omega.{arith}
 use lib.ListN.{length, get_or}
-use Rattle.laws.proofs.Fill.{get_d_table}
+use Rattle.laws.proofs.Fill.{get_or-table}
 use Rattle.laws.proofs.Round.{wound_here, apart_early}
 use Rattle.laws.specs.Round.{Round}
 use Rattle.sheet.specs.Office.{Office, points, sides, tail, rims as hull_sides}
@@ -35,7 +35,7 @@ module _ {o : Office} {n : ℕ} {k : List ℕ} (a : Acceptable o) (h : Sound o n
   reads i =
       ap (λ l. get_or (ring o k) (i % l) 0) (ring_length a h)
       ∙ ap (λ l. get_or l (i % m) 0) (outlined a h).reads
-      ∙ get_d_table r.at m (i % m) (mod-lt i r.long)
+      ∙ get_or-table r.at m (i % m) (mod-lt i r.long)
       ∙ wound_here r i
 
   abbrev number : ℕ → ℕ

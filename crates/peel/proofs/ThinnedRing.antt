@@ -12,7 +12,7 @@ use Rattle.laws.specs.First.{first, table, count}
 use Rattle.laws.specs.Round.{rotated}
 use Rattle.laws.proofs.Test.{false_iff, eqb_iff, first_of}
 use Rattle.laws.proofs.Search.{first_hit}
-use Rattle.laws.proofs.Fill.{length-table, get_d_table}
+use Rattle.laws.proofs.Fill.{length-table, get_or-table}
 use Rattle.laws.proofs.Front.{table_same}
 use Rattle.laws.proofs.Round.{apart_early, from_step, from_step_at}
 use Rattle.laws.proofs.OneRound.{one_round, one_length, rotated-table}
@@ -66,7 +66,7 @@ module _ {o : Office} (a : Acceptable o) where
     size = ap length last.reads ∙ length-table last.round.at c
 
     read : (i : ℕ) → i < c → get_or (ring o (drawn o 0)) i 0 ≡ last.round.at i
-    read i l = ap (λ (l : List ℕ). get_or l i 0) last.reads ∙ get_d_table last.round.at c i l
+    read i l = ap (λ (l : List ℕ). get_or l i 0) last.reads ∙ get_or-table last.round.at c i l
 
     at_zero : on_rim o (drawn o 0) (here.round.at 0) ≡ true
     at_zero = on_at_smaller 0 limit (here.round.at 0) (omega arith) here.begins
@@ -102,7 +102,7 @@ module _ {o : Office} (a : Acceptable o) where
         let (n, q, f) = drawn_thins a 0 limit (omega arith) c r in
         let start : r.at 0 ≡ here.round.at 0 = from_step_at last.round i 0 ∙ ap last.round.at (omega arith) ∙ e in
         let begins : q.at 0 ≡ here.round.at 0 =
-        sym (get_d_table q.at n 0 q.long) ∙ ap (λ (l : List ℕ). get_or l 0 0) f ∙ keep_head test r.at c r.long (subst (λ p. test p ≡ true) (sym start) here.begins) ∙ start in
+        sym (get_or-table q.at n 0 q.long) ∙ ap (λ (l : List ℕ). get_or l 0 0) f ∙ keep_head test r.at c r.long (subst (λ p. test p ≡ true) (sym start) here.begins) ∙ start in
         let (j, l, w) = one_round here.round q in
         let zero : j ≡ 0 = apart_early here.round j 0 l here.round.long (ap here.round.at (omega arith) ∙ sym (w 0) ∙ begins) in
         here.reads

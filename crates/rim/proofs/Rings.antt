@@ -12,9 +12,9 @@ use lib.Seq.{ext_get_or}
 use Rattle.laws.specs.First.{first, table, stepped}
 use Rattle.laws.proofs.Test.{kept_iff, eqb_iff, first_of}
 use Rattle.laws.proofs.Search.{first_is}
-use Rattle.laws.proofs.Fill.{length-table, get_d_table}
+use Rattle.laws.proofs.Fill.{length-table, get_or-table}
 use Rattle.laws.proofs.Count.{inject, count_all, count_less}
-use Rattle.laws.proofs.Walk.{length-walk, get_d_walk}
+use Rattle.laws.proofs.Walk.{length-walk, get_or-walk}
 use Rattle.laws.proofs.Round.{apart_early, from_step, from_step_at}
 use Rattle.laws.specs.Round.{Round}
 use Rattle.laws.proofs.Runs.{stepped_is, length_is}
@@ -70,11 +70,11 @@ module _ {o : Office} {n : ℕ} {k : List ℕ} (a : Acceptable o) (h : Sound o n
         reads = ext_get_or 0 (ring o k) (table r.at (hull_sides o + n)) (ring_length ∙ sym (length-table r.at (hull_sides o + n)))
             (λ i b.
             let c : i < hull_sides o + n = rw ring_length at b in
-            get_d_walk (after o k) low (rims o k) i (let u = rims_are in omega arith)
+            get_or-walk (after o k) low (rims o k) i (let u = rims_are in omega arith)
             ∙ ap (λ p. stepped (after o k) p i) z
             ∙ stepped_is (sides o) (rim o k) (tail o) (head o) r 0 i
             ∙ ap r.at (omega arith)
-            ∙ sym (get_d_table r.at (hull_sides o + n) i c));
+            ∙ sym (get_or-table r.at (hull_sides o + n) i c));
       }
     where
       lowest_of : (p : ℕ) → on_rim o k p ≡ true → first (on_rim o k) (points o) ≤ p

@@ -9,7 +9,7 @@ use lib.ListN.{length, get_or}
 use borrow.Author.Tests.{eq-eqb, eqb-true}
 use Rattle.laws.specs.First.{final}
 use Rattle.laws.proofs.Final.{final-any}
-use Rattle.laws.proofs.Fill.{get_d_table}
+use Rattle.laws.proofs.Fill.{get_or-table}
 use Rattle.laws.proofs.Test.{and_iff, any_iff, same_answer}
 use Rattle.sheet.specs.Office.{same_point, again}
 use Rattle.sheet.specs.Code.{cloud, starts, bucket, buckets}
@@ -20,7 +20,7 @@ module _ (xs ys : List ℕ) where
   rule p = bucket (get_or xs p 0) (get_or ys p 0)
 
   pub bucket_at : (p : ℕ) → p < length xs → get_or (buckets xs ys) p 0 ≡ rule p
-  bucket_at p l = get_d_table rule (length xs) p l
+  bucket_at p l = get_or-table rule (length xs) p l
 
   module _ (p begun : ℕ) (l : p < length xs) (few : length xs ≤ 1024) (is : begun ≡ final 65535 (starts (buckets xs ys) (rule p)) p) where
     same_bucket : (q : ℕ) → q < p → same_point (cloud xs ys) p q ≡ true → starts (buckets xs ys) (rule p) q ≡ true
