@@ -37,7 +37,8 @@ extern "C" {
  *
  * All memory is the caller's. The function reads points and triangles, writes out, keeps no pointer and allocates nothing; of C's library
  * it calls memcpy and memset. It may run in several threads at once, each on its own out. out must not overlap points or triangles. A
- * pointer may be null where its length is 0. It needs some 140 KiB of stack.
+ * pointer may be null where its length is 0. It needs some 140 KiB of stack
+ * (measured with an older toolchain).
  */
 int64_t outline_polygon(const uint8_t *points, size_t points_len,
                         const uint8_t *triangles, size_t triangles_len,

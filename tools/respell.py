@@ -17,7 +17,7 @@ import sys
 WORD = re.compile(r"(?<![\w'′₀-₉-])[^\W\d][\w'′₀-₉]*(?:-[\w'′₀-₉*≤<+]+)*(?![\w'′₀-₉-])")
 KIT = set("length take drop get_or set sets map append replicate zip add mul sub le lt suc zero eq div mod abs pos neg cond not and or sum count if_ true false none some".split())
 # Names that would fall together with another one, name a word of the library that has another name now, or stand with their parameters before the colon.
-APART = {"on-grid": "unrefused_on_grid", "at-triangle": "at_triangle", "low-first": "first_of_low", "getD-table": "get_or-table", "getD-walk": "get_or-walk"}
+APART = {"on-grid": "unrefused_on_grid", "onGrid": "is_on_grid", "at-triangle": "at_triangle", "low-first": "first_of_low", "getD-table": "get_or-table", "getD-walk": "get_or-walk"}
 
 
 def files(*patterns):

@@ -12,7 +12,7 @@ use lib.Seq.{drop-cons}
 use Rattle.shape.specs.declared.Coordinate.{Coordinate}
 use Rattle.shape.specs.declared.Coordinate.TheVariants.{Grid, OffGrid, NotFinite}
 use Rattle.shape.specs.Answers.{gives, must}
-use Rattle.shape.specs.Coordinates.{encode, coordinate_at, on_grid, grid_of, grid_at}
+use Rattle.shape.specs.Coordinates.{encode, coordinate_at, is_on_grid, grid_of, grid_at}
 use Rattle.shape.specs.Bytes.{in_order, number_at}
 use Rattle.shape.specs.Writing.{positions, around, head, polygon, low, size}
 use Rattle.shape.specs.Reading.{row, grids, order_at, length_at, xs_at, ys_at, polygon_asks, end, read_answer}
@@ -24,14 +24,14 @@ use Rattle.exchange.proofs.Words.{Octets, word_lt, word_of}
 use Rattle.exchange.proofs.Lows.{low_more, low_none, low_front, grids_around}
 use Rattle.exchange.proofs.ReadAfterWrite.{Writable}
 
-on_the_grid : (c : Coordinate) → on_grid c ≡ true → c ≡ Grid (grid_of c)
+on_the_grid : (c : Coordinate) → is_on_grid c ≡ true → c ≡ Grid (grid_of c)
 on_the_grid (Grid g) e = refl
 on_the_grid (OffGrid x) e = let z : ◌≡◌ {A = ℕ} 0 1 = cc in absurd (omega arith)
 on_the_grid NotFinite e = let z : ◌≡◌ {A = ℕ} 0 1 = cc in absurd (omega arith)
 
 module _ (order : ℕ) (s : List ℕ) (oct : Octets s) where
   -- a coordinate on the grid has its number's bytes
-  coordinate_of : (at : ℕ) → at + 8 ≤ length s → on_grid (coordinate_at order s at) ≡ true
+  coordinate_of : (at : ℕ) → at + 8 ≤ length s → is_on_grid (coordinate_at order s at) ≡ true
       → (drop at s ≡ in_order order 8 (encode (grid_at order s at)) ++ drop (at + 8) s) × (grid_at order s at ≤ 16383)
   coordinate_of at h e =
       let j = encode_judge (number_at 8 order s at) (grid_at order s at) (word_lt order s at 8 oct h) (on_the_grid (coordinate_at order s at) e) in

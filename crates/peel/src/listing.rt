@@ -100,7 +100,7 @@ pub fn list_accepted(
     area: &mut [u32],
 ) -> usize
     requires acceptable { Acceptable (office xs.now ys.now corners.now) × (hull ≡ sheet.rims (office xs.now ys.now corners.now)) × (length corners.now / 3 ≤ length kept.old) × (length xs.now ≤ length rim.old) × (length xs.now ≤ length ring.old) }
-    requires xs_in_bounds { (length xs.now ≤ length least.old + 2) × (length xs.now ≤ length peeled.old + 2) × (length xs.now ≤ length area.old + 2) }
+    requires entries_fit { (length xs.now ≤ length least.old + 2) × (length xs.now ≤ length peeled.old + 2) × (length xs.now ≤ length area.old + 2) }
     requires mate_value { take (length corners.now) mate.now ≡ table (mate_of corners.now) (length corners.now) }
     ensures lent { Lent (office xs.now ys.now corners.now) (peeling.drawn (office xs.now ys.now corners.now) 0) kept.old rim.old ring.old kept.new rim.new ring.new }
     ensures written { Written (entries (office xs.now ys.now corners.now)) least.old peeled.old area.old least.new peeled.new area.new result }

@@ -85,7 +85,7 @@ pub fn begin(
     requires acceptable { Acceptable (office xs.now ys.now corners.now) × (hull ≡ sheet.rims (office xs.now ys.now corners.now)) × (length corners.now / 3 ≤ length kept.old) × (length xs.now ≤ length rim.old) }
     requires mate_value { take (length corners.now) mate.now ≡ table (mate_of corners.now) (length corners.now) }
     ensures state { State (office xs.now ys.now corners.now) mate.now kept.new rim.new result.peeled result.area result.ring × (result.peeled ≡ 0) }
-    ensures kept_unchanged { (drop (length corners.now / 3) kept.new ≡ drop (length corners.now / 3) kept.old) × (drop (length xs.now) rim.new ≡ drop (length xs.now) rim.old) }
+    ensures rest_unchanged { (drop (length corners.now / 3) kept.new ≡ drop (length corners.now / 3) kept.old) × (drop (length xs.now) rim.new ≡ drop (length xs.now) rim.old) }
 {
     fill(kept, corners.len() / 3, 1);
     mark_rim(corners, mate, kept, rim, xs.len());

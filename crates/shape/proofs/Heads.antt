@@ -3,7 +3,7 @@ use Rattle.std.proofs.Common.{◌≡◌, ℕ, zero, suc, ◌+◌, ◌-◌, ◌*�
 use Rattle.laws.proofs.Test.{and_iff}
 use Rattle.shape.specs.Answers.{Question, must, gives, refused, asked}
 use Rattle.shape.specs.Bytes.{number_at}
-use Rattle.shape.specs.Coordinates.{coordinate_at, on_grid}
+use Rattle.shape.specs.Coordinates.{coordinate_at, is_on_grid}
 use Rattle.shape.specs.Reading.{run, coordinate_asks, coordinates, count, count_asks, order_at, type_asks, length_at, head_asks}
 use Rattle.shape.proofs.Asking.{passes, passes_below, ends, passes_all, gives_other, fault}
 use Rattle.shape.proofs.Scanned.{ran, scanned}
@@ -101,11 +101,11 @@ head_passed s at room g f =
 -- ---- coordinates that were passed
 
 pub coordinate_passed : {A : Type 0} {b : A} (k order : ℕ) (s : List ℕ) (at : ℕ) (a : A) → gives b ≡ asked (coordinates (suc k) order s at) a
-    → (at + 8 ≤ length s) × (on_grid (coordinate_at order s at) ≡ true) × (gives b ≡ asked (coordinates k order s (at + 8)) a)
+    → (at + 8 ≤ length s) × (is_on_grid (coordinate_at order s at) ≡ true) × (gives b ≡ asked (coordinates k order s (at + 8)) a)
 unfolding run
 coordinate_passed k order s at a e =
     let q1 = passed_one (leb (at + 8) (length s)) 20 at _ a e in
-    let q2 = passed_one (on_grid (coordinate_at order s at)) _ at _ a q1.1 in
+    let q2 = passed_one (is_on_grid (coordinate_at order s at)) _ at _ a q1.1 in
     (leb-true (at + 8) (length s) q1.0, q2.0, q2.1)
 
 -- what was passed is there, where each says so

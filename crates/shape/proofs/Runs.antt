@@ -3,7 +3,7 @@ use Rattle.std.proofs.Common.{◌≡◌, ℕ, zero, suc, ◌+◌, ◌*◌, ◌<�
 use Rattle.shape.specs.declared.Coordinate.{Coordinate}
 use Rattle.shape.specs.declared.Coordinate.TheVariants.{Grid, OffGrid, NotFinite}
 use Rattle.shape.specs.Answers.{Question, gives, refused, asked}
-use Rattle.shape.specs.Coordinates.{coordinate_at, refusal_of, on_grid}
+use Rattle.shape.specs.Coordinates.{coordinate_at, refusal_of, is_on_grid}
 use Rattle.shape.specs.Reading.{run, coordinate_asks}
 use Rattle.shape.specs.Refusals.{Good, Bad, cut, not_finite, off_grid}
 use Rattle.shape.proofs.Asking.{fault, ask_cases, ends, passes_all, stops_first, part_cases}
@@ -119,12 +119,12 @@ steps step asks = record {
 
 -- ---- coordinates
 
-grid_is : (c : Coordinate) → on_grid c ≡ true → (g : ℕ) × (c ≡ Grid g)
+grid_is : (c : Coordinate) → is_on_grid c ≡ true → (g : ℕ) × (c ≡ Grid g)
 grid_is (Grid g) e = (g, refl)
 grid_is (OffGrid x) e = let z : ◌≡◌ {A = ℕ} 0 1 = cc in absurd (omega arith)
 grid_is NotFinite e = let z : ◌≡◌ {A = ℕ} 0 1 = cc in absurd (omega arith)
 
-bad_is : (order : ℕ) (s : List ℕ) (at : ℕ) → at + 8 ≤ length s → (c : Coordinate) → coordinate_at order s at ≡ c → on_grid c ≡ false → Bad order s at (refusal_of c)
+bad_is : (order : ℕ) (s : List ℕ) (at : ℕ) → at + 8 ≤ length s → (c : Coordinate) → coordinate_at order s at ≡ c → is_on_grid c ≡ false → Bad order s at (refusal_of c)
 bad_is order s at h (Grid g) e f = let z : ◌≡◌ {A = ℕ} 0 1 = cc in absurd (omega arith)
 bad_is order s at h (OffGrid x) e f = off_grid h x e
 bad_is order s at h NotFinite e f = not_finite h e
@@ -143,7 +143,7 @@ module _ (order : ℕ) (s : List ℕ) where
       ask_cases (BadAt order s at) (leb (at + 8) (length s)) 20 at _ (tt {0}) e
       (λ f. (cut (leb-false (at + 8) (length s) f), refl))
       (λ t r.
-      ask_cases (BadAt order s at) (on_grid (coordinate_at order s at)) (refusal_of (coordinate_at order s at)) at [] (tt {0}) r
+      ask_cases (BadAt order s at) (is_on_grid (coordinate_at order s at)) (refusal_of (coordinate_at order s at)) at [] (tt {0}) r
       (λ f. (bad_is order s at (leb-true (at + 8) (length s) t) (coordinate_at order s at) refl f, refl))
       (λ t2 r2. absurd (nothing_left (tt {0}) r2)))
 

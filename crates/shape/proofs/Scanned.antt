@@ -6,17 +6,17 @@ use Rattle.laws.proofs.Put.{put_front}
 use Rattle.shape.specs.declared.Coordinate.{Coordinate}
 use Rattle.shape.specs.declared.Coordinate.TheVariants.{Grid, OffGrid, NotFinite}
 use Rattle.shape.specs.Answers.{Question, Answer, gives, refused, asked, over}
-use Rattle.shape.specs.Coordinates.{coordinate, float_at, coordinate_at, refusal_of, on_grid}
+use Rattle.shape.specs.Coordinates.{coordinate, float_at, coordinate_at, refusal_of, is_on_grid}
 use Rattle.shape.specs.Reading.{run, row, coordinate_asks, coordinates}
 use Rattle.shape.proofs.Asking.{stops, passes, stops_above, passes_below, ends, asked_both, and_then, fault}
 
 -- a coordinate is on the grid just where nothing is its refusal
-unrefused_on_grid : (c : Coordinate) → refusal_of c ≡ 0 → on_grid c ≡ true
+unrefused_on_grid : (c : Coordinate) → refusal_of c ≡ 0 → is_on_grid c ≡ true
 unrefused_on_grid (Grid g) e = refl
 unrefused_on_grid (OffGrid x) e = absurd (omega arith)
 unrefused_on_grid NotFinite e = absurd (omega arith)
 
-off_grid : (c : Coordinate) → (refusal_of c ≡ 0 → ⊥) → on_grid c ≡ false
+off_grid : (c : Coordinate) → (refusal_of c ≡ 0 → ⊥) → is_on_grid c ≡ false
 off_grid (Grid g) f = absurd (f refl)
 off_grid (OffGrid x) f = refl
 off_grid NotFinite f = refl

@@ -29,10 +29,10 @@ grid_of (Grid g) = g
 grid_of (OffGrid x) = 0
 grid_of NotFinite = 0
 
-abbrev pub on_grid : Coordinate → Bool
-on_grid (Grid g) = true
-on_grid (OffGrid x) = false
-on_grid NotFinite = false
+abbrev pub is_on_grid : Coordinate → Bool
+is_on_grid (Grid g) = true
+is_on_grid (OffGrid x) = false
+is_on_grid NotFinite = false
 
 -- ---- at a place of a block
 

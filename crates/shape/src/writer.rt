@@ -57,7 +57,7 @@ fn put_position(out: &mut [u8], at: usize, p: Position)
 fn put_ring(xs: &[u16], ys: &[u16], out: &mut [u8])
     requires in_bounds { 1 ≤ length xs.now }
     requires xs_len { length xs.now ≡ length ys.now }
-    requires xs_in_bounds { 16 * (length xs.now + 1) ≤ length out.old }
+    requires ring_fits { 16 * (length xs.now + 1) ≤ length out.old }
     ensures { out.new ≡ sets out.old 0 (positions 1 (around xs.now) (around ys.now)) }
 {
     let mut i = 0;
@@ -85,7 +85,7 @@ fn put_head(out: &mut [u8], n: usize)
 pub fn put_polygon(xs: &[u16], ys: &[u16], out: &mut [u8])
     requires in_bounds { (1 ≤ length xs.now) × (length xs.now ≤ 1024) }
     requires xs_len { length xs.now ≡ length ys.now }
-    requires xs_in_bounds { size (length xs.now) ≤ length out.old }
+    requires ring_fits { size (length xs.now) ≤ length out.old }
     ensures { out.new ≡ sets out.old 0 (polygon 1 xs.now ys.now) }
 {
     put_head(out, xs.len());

@@ -41,7 +41,7 @@ pub fn dot(px: u16, py: u16, ax: u16, ay: u16, bx: u16, by: u16) -> i32
 // Twice the area of a triangle whose corners run counterclockwise.
 pub fn doubled(ax: u16, ay: u16, bx: u16, by: u16, cx: u16, cy: u16) -> u32
     requires small { Small (spot ax ay) × Small (spot bx by) × Small (spot cx cy) }
-    requires pos_bound { pos 0 <ℤ plane.turn (spot ax ay) (spot bx by) (spot cx cy) }
+    requires turns_left { pos 0 <ℤ plane.turn (spot ax ay) (spot bx by) (spot cx cy) }
     ensures { result ≡ nat_abs (plane.turn (spot ax ay) (spot bx by) (spot cx cy)) }
 {
     turn(ax, ay, bx, by, cx, cy) as u32

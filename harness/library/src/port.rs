@@ -1,4 +1,4 @@
-//! The library itself, through the archives of `crates/port` and `crates/host`, and the list printer. A slice passes as the address of its first element and its
+//! The library itself, through the archives of `crates/port_c` and `crates/host_c`, and the list printer. A slice passes as the address of its first element and its
 //! length. Answers come back in four lent numbers: 0 and the values, or 1, the refusal's number and its place.
 
 use crate::Library;
