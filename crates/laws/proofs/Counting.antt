@@ -47,6 +47,3 @@ module _ {test : ℕ → Bool} {n : ℕ} where
 
   pub counts_few : {i total : ℕ} → Counted test n i total → total ≤ i
   counts_few {i} c = let h = count_within test i in let e = c.is in omega arith
-
-  pub counts_all : {i total : ℕ} → Counted test n i total → n ≤ i → total ≡ count test n
-  counts_all {i} c l = c.is ∙ ap (count test) (let w = c.within in omega arith)

@@ -1,12 +1,12 @@
 -- The greatest number below a bound at which a test holds; going back from one such number to the next. Assumes nothing.
 use mathlib.Core.Path.{◌≡◌, refl, sym, ap, ◌∙◌}
-use mathlib.Core.Bool.{Bool, true, false, true≢false, cond, ◌&&◌}
+use mathlib.Core.Bool.{Bool, true, false, true≢false, not, cond, ◌&&◌}
 use mathlib.Core.Logic.{◌⊎◌, inl, inr}
 use Prim.Native.Nat.{ℕ, zero, suc, ◌≤◌, ◌<◌}
 use native.Mathlib.Decide.{ℕ_discrete}
 use native.Mathlib.Omega.{arith}
-use lib.Dec.{ltb}
-use borrow.Author.Tests.{lt-ltb, le-ltb}
+use lib.Dec.{ltb, eqb}
+use borrow.Author.Tests.{lt-ltb, le-ltb, eq-eqb, ne_eqb}
 use Rattle.laws.specs.First.{any, final}
 use Rattle.laws.proofs.Test.{false_iff, any_iff}
 
@@ -72,3 +72,11 @@ final-any none test n l = step (final_is none test n)
     step : {r : ℕ} → IsFinal none test n r → ltb r none ≡ any test n
     step {r} (at b h g) = lt-ltb r none (omega arith) ∙ sym (any_iff.1 (r, b, h))
     step {r} (nowhere e g) = le-ltb r none (omega arith) ∙ sym (false_iff.1 (λ t. let (i, b, h) = any_iff.0 t in true≢false (sym h ∙ g i b)))
+
+-- it is `none` where there is no hit, and only there
+pub final_none : (none : ℕ) (test : ℕ → Bool) (n : ℕ) → n ≤ none → eqb (final none test n) none ≡ not (any test n)
+final_none none test n l = step (final_is none test n)
+  where
+    step : {r : ℕ} → IsFinal none test n r → eqb r none ≡ not (any test n)
+    step {r} (at b h g) = ne_eqb r none (λ e. let z = e in omega arith) ∙ sym (ap not (any_iff.1 (r, b, h)))
+    step {r} (nowhere e g) = eq-eqb r none e ∙ sym (ap not (false_iff.1 (λ t. let (i, b, h) = any_iff.0 t in true≢false (sym h ∙ g i b))))

@@ -1,6 +1,6 @@
 -- Sides chained by the point that they start from: how the chains are made, and going back along one. Assumes nothing.
 use mathlib.Core.Path.{◌≡◌, refl, sym, ap, ap₂, subst, ◌∙◌}
-use mathlib.Core.Bool.{Bool, true, false, cond, not, ◌&&◌, ◌||◌}
+use mathlib.Core.Bool.{Bool, true, false, cond, ◌&&◌, ◌||◌}
 use mathlib.Core.Logic.{inl, inr}
 use mathlib.Core.List.{List}
 use Prim.Native.Nat.{ℕ, suc, ◌+◌, ◌*◌, ◌/◌, ◌%◌, ◌<◌, ◌≤◌}
@@ -14,8 +14,8 @@ use borrow.Author.Tests.{eq-eqb, ne_eqb, eqb-true, lt-ltb, le-ltb}
 use Rattle.laws.specs.First.{final, any}
 use Rattle.laws.proofs.Final.{IsFinal, at, nowhere, final_is, final_hit, final_miss, back_from, back_begins, back_here, back_on, back_none, final-any}
 use Rattle.laws.proofs.Test.{and_iff, any_iff, same_answer}
-use Rattle.sheet.specs.Office.{bare, next, same_side, double, unused}
-use Rattle.sheet.specs.Code.{starts, ends, Chained, back_along, Cornered}
+use Rattle.sheet.specs.Office.{bare, next, same_side, double}
+use Rattle.sheet.specs.Code.{starts, ends, back_along, Cornered}
 use Rattle.sheet.proofs.Side.{same_triangle}
 
 -- the sides below s are chained, in a list of `room` numbers
@@ -51,12 +51,6 @@ module _ {room : ℕ} {corners earlier latest : List ℕ} {s : ℕ} (h : Chainin
       | yes z ↦ ap (λ i. get_or (set latest p s) i 0) z ∙ get_or-set_same latest p s 0 (let w = h.long_latest in omega arith) ∙ sym (ap (final 65535 (starts corners q)) (add-one s) ∙ final_hit 65535 (starts corners q) s (eq-eqb _ _ (sym e ∙ sym z)))
       | no z ↦ get_or-set_other latest p q s 0 z ∙ h.latest_is q m ∙ sym (ap (final 65535 (starts corners q)) (add-one s) ∙ final_miss 65535 (starts corners q) s (ne_eqb _ _ (λ w. z (sym w ∙ sym e))))
     ];
-  }
-
-  pub chains_all : length corners ≤ s → Chained corners earlier latest
-  chains_all l = record {
-    earlier_is = λ k m. h.earlier_is k (omega arith);
-    latest_is = λ p m. h.latest_is p m ∙ ap (final 65535 (starts corners p)) (let w = h.within in omega arith);
   }
 
 -- of the sides from the point where side r starts, up to r, the latest that passes the test
@@ -158,6 +152,3 @@ pub double_is : (corners : List ℕ) → Cornered corners → length corners % 3
     → (a || b || c) ≡ double (bare corners) t
 double_is corners three whole t l x y z =
     ap₂ ◌||◌ (ap₂ ◌||◌ x (y ∙ repeated_below corners three whole (t * 3 + 1) t (omega arith) (omega arith))) (z ∙ repeated_below corners three whole (t * 3 + 2) t (omega arith) (omega arith))
-
-pub unused_is : (corners : List ℕ) (p latest : ℕ) → length corners ≤ 6129 → latest ≡ final 65535 (starts corners p) (length corners) → not (ltb latest 65535) ≡ unused (bare corners) p
-unused_is corners p latest few e = ap not (ap (λ r. ltb r 65535) e ∙ final-any 65535 (starts corners p) (length corners) (omega arith))

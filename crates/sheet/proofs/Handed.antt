@@ -1,20 +1,13 @@
 -- What the check says of the table of mates. Assumes nothing.
-use mathlib.Core.Path.{◌≡◌, sym, ap₂, subst, ◌∙◌}
-use mathlib.Core.List.{List, ◌++◌}
+use mathlib.Core.Path.{◌≡◌, ap₂}
 use Prim.Native.Nat.{ℕ}
-use lib.ListN.{length, drop, replicate, take-append-drop}
-use Rattle.sheet.specs.Verdict.{Verdict, accepted, refused}
-use Rattle.sheet.specs.Answer.{Ready, handed}
-use Rattle.sheet.specs.Code.{Mated}
+use Rattle.sheet.specs.Verdict.{refused}
+use Rattle.std.specs.Prelude.{Err}
+use Rattle.sheet.specs.Refusal.{number}
+use Rattle.sheet.specs.Answer.{answer}
+use Rattle.sheet.specs.declared.refusal.Rule.{Rule}
+use Rattle.sheet.specs.declared.refusal.Refusal.{Refusal}
 
--- nothing of a refused office, and all of an accepted one
-pub no_table : (corners old mate : List ℕ) {v : Verdict} {k p : ℕ} → v ≡ refused k p → Ready v corners old mate
-no_table corners old mate e = subst (λ v. Ready v corners old mate) (sym e) tt
-
-pub a_table : (corners old mate : List ℕ) (v : Verdict) → Mated corners mate → drop (length corners) mate ≡ drop (length corners) old → Ready v corners old mate
-a_table corners old mate (accepted m) h r = (h, r)
-a_table corners old mate (refused k p) h r = tt
-
--- so a table of 0 is then what is handed out
-pub hands : (corners mate : List ℕ) (m : ℕ) → Ready (accepted m) corners (replicate 6129 0) mate → mate ≡ handed (accepted m) corners mate
-hands corners mate m h = sym (take-append-drop (length corners) mate) ∙ ap₂ ◌++◌ h.0 h.1
+-- what a rule refuses at a place
+pub refuses : {r : Refusal} {rule : Rule} {place : ℕ} → (r.rule ≡ rule) × (r.place ≡ place) → answer (Err r) ≡ refused (number rule) place
+refuses e = ap₂ (λ k p. refused (number k) p) e.0 e.1

@@ -80,9 +80,6 @@ module _ (o : Office) (t : ℕ) {area : ℤ} {ax ay bx by cx cy : ℕ} (a : At o
   moved : {i x y : ℕ} (j : ℕ) → i ≡ j → At o (tail o i) x y → At o (tail o j) x y
   moved {i} {x} {y} j f h = subst (λ k. At o (tail o k) x y) f h
 
-  pub first_cornering : Cornering o (t * 3) area ax ay bx by cx cy
-  first_cornering = record { from = a; to = moved (next (t * 3)) (omega arith) b; third = moved (last (t * 3)) (omega arith) c; turns = e }
-
   pub second_cornering : Cornering o (t * 3 + 1) area bx by cx cy ax ay
   second_cornering = record { from = b; to = moved (next (t * 3 + 1)) (omega arith) c; third = moved (last (t * 3 + 1)) (omega arith) a; turns = e ∙ turn_rotates _ _ _ }
 

@@ -128,29 +128,6 @@ module _ (corners : List ℕ) (p : ℕ) (few : length corners ≤ 6129) where
           clash : (s : ℕ) → s < length corners → get_or corners s 0 ≡ p → get_or noted q 0 ≡ s → ⊥
           clash s m z v = true≢false (sym (and_iff.1 (ap (λ i. ltb i 65535) v ∙ lt-ltb s 65535 (omega arith), ap (λ i. eqb (get_or corners i 0) p) v ∙ eq-eqb _ _ z)) ∙ e)
 
-      pub notes_twice : (ltb (get_or noted q 0) 65535 && eqb (get_or corners (get_or noted q 0) 0) p) ≡ true → Single (bare corners) → ⊥
-      notes_twice e single =
-          let (a, b) = and_iff.0 e in
-          let m = ltb-true _ _ a in
-          let z = eqb-true _ _ b in
-          let w = single r (get_or noted q 0) (h.here l) (h.there q in-range m) (h.from l ∙ sym z) (sym is ∙ sym (h.ends_there q in-range m)) in
-          elim (h.low q in-range m) [
-            | inl k ↦ omega arith
-            | inr k ↦ omega (arith, rank_some r l, k.1, w)
-          ]
-
-  pub notes_all : {noted : List ℕ} {r : ℕ} → Noting corners p noted r → 65535 ≤ r → Noted corners (p + 1) noted × Placed corners p noted
-  notes_all {noted} {r} h l =
-      let z = rank_none r l in (
-        record {
-          long = h.long;
-          there = h.there;
-          ends_there = h.ends_there;
-          low = λ q m w. elim (h.low q m w) [ inl a ↦ omega arith | inr a ↦ omega (arith, a.0) ];
-        },
-        λ s m k. h.placed s m k (omega arith),
-      )
-
 -- where each side from p is noted at its end, the side noted at the start of a side to p runs back along that one
 module _ (corners : List ℕ) (p : ℕ) (noted : List ℕ) (few : length corners ≤ 6129) (all : Numbered corners 1024) (whole : length corners % 3 ≡ 0) (h : Noted corners (p + 1) noted) (g : Placed corners p noted) where
   module _ (s : ℕ) (l : s < length corners) (z : get_or corners s 0 ≡ p) where
@@ -233,9 +210,6 @@ module _ (corners : List ℕ) (p : ℕ) (old : List ℕ) (few : length corners �
           | yes w ↦ subst (Right corners (set mate (last s) v)) (sym w) written
           | no w ↦ get_or-set_other mate (last s) k v 0 w ∙ r
         ]
-
-  pub rights_all : {mate : List ℕ} {s : ℕ} → Righting corners p old mate s → 65535 ≤ s → Righted corners p old mate
-  rights_all {mate} {s} h l = record { long = h.long; keeps = h.keeps; rest = h.rest; rights = λ i m z. h.rights i m z (omega (arith, rank_none s l)) }
 
 -- the points below p are done
 pub record Paired (corners old noted mate : List ℕ) (p : ℕ) : Type 0 where

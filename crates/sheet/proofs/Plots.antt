@@ -10,7 +10,7 @@ use Rattle.laws.proofs.Test.{plain}
 use Rattle.laws.proofs.Order.{level}
 use Rattle.sheet.specs.Office.{Office, office, points, sides, triangles, large, again, no_point, flat, double, unused}
 use Rattle.sheet.specs.Acceptable.{Left, Single, Used}
-use Rattle.sheet.specs.Code.{cloud, Plotted, Numbered, Cornered}
+use Rattle.sheet.specs.Code.{cloud, Plotted, Cornered}
 use Rattle.sheet.proofs.Corner.{tail_not_head}
 use Rattle.sheet.proofs.Single.{all_new, single_of}
 
@@ -31,10 +31,6 @@ plots xs ys corners a d n paired some few whole short e l g j f m = record {
 }
 
 module _ (o : Office) where
-  -- every point number fits the tables by points
-  pub low_numbers : Plotted o → Numbered o.corners 1024
-  low_numbers p s l = omega (arith, p.numbered s l, p.few)
-
   -- what refusals 8 and 9 leave
   pub left_of : (r : ℕ) → r ≡ first (flat o) (triangles o) → triangles o ≤ r → Left o
   left_of r e l t b = simp plain at (found_none (flat o) (triangles o) r e l t b)

@@ -8,7 +8,8 @@ use Rattle.sheet.specs.Acceptable.{Acceptable}
 use Rattle.sheet.specs.Verdict.{accepted, verdict}
 use Rattle.sheet.specs.Answer.{answer}
 use Rattle.sheet.specs.Renumbered.{Renumbered}
-use Rattle.sheet.specs.declared.Checked.{Checked}
+use Rattle.std.specs.Prelude.{Result}
+use Rattle.sheet.specs.declared.refusal.Refusal.{Refusal}
 use Rattle.sheet.proofs.Accepted.{accepted_exactly}
 use Rattle.sheet.proofs.Matched.{Matched, turned_back}
 use Rattle.sheet.proofs.MatchedAccept.{accept, rims_same}
@@ -32,5 +33,5 @@ module _ {o n : Office} (re : Renumbered o n) where
       both {o} {n} w a x = (accepted_exactly n m).1 (accept w a, x ∙ sym (rims_same w a))
 
   -- what `check` answers to the two
-  pub check_same : (x y : Checked) → answer x ≡ verdict true o → answer y ≡ verdict true n → (m : ℕ) → (answer x ≡ accepted m) ↔ (answer y ≡ accepted m)
+  pub check_same : (x y : Result ℕ Refusal) → answer x ≡ verdict true o → answer y ≡ verdict true n → (m : ℕ) → (answer x ≡ accepted m) ↔ (answer y ≡ accepted m)
   check_same x y f g m = let (to, from) = accepted_same m in ((λ e. g ∙ to (sym f ∙ e)), (λ e. f ∙ from (sym g ∙ e)))

@@ -1,15 +1,16 @@
 -- The answers of the check, by document 01's numbers. Assumes nothing.
-use Rattle.std.specs.Prelude.{List, ◌++◌, ◌≡◌, ℕ, length, drop, replicate}
+use Rattle.std.specs.Prelude.{Result, Ok, Err, List, ◌++◌, ◌≡◌, ℕ, length, drop, replicate}
 use Rattle.laws.specs.First.{table}
 use Rattle.sheet.specs.Office.{mate_of}
 use Rattle.sheet.specs.Code.{Mated}
 use Rattle.sheet.specs.Verdict.{Verdict, accepted, refused}
-use Rattle.sheet.specs.declared.Checked.{Checked}
-use Rattle.sheet.specs.declared.Checked.TheVariants.{Accepted, Refused}
+use Rattle.sheet.specs.Refusal.{number}
+use Rattle.sheet.specs.declared.refusal.Refusal.{Refusal}
 
-abbrev pub answer : Checked → Verdict
-answer (Accepted m) = accepted m
-answer (Refused r) = refused r.number r.place
+-- the rim's length, or the refusal's number and place
+abbrev pub answer : Result ℕ Refusal → Verdict
+answer (Ok m) = accepted m
+answer (Err r) = refused (number r.rule) r.place
 
 -- what a lent table holds then: an accepted office's mates, with 0 behind them, or what stood there
 abbrev pub handed : Verdict → List ℕ → List ℕ → List ℕ

@@ -1,3 +1,4 @@
+pub mod Refusal
 pub mod Plane
 pub mod Office
 pub mod Verdict
@@ -6,5 +7,6 @@ pub mod Renumbered
 pub mod Rules
 pub mod Code
 pub mod Answer
+pub mod Values
 pub mod Quick
 pub mod Unambiguous

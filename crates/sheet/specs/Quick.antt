@@ -1,5 +1,5 @@
 -- What makes an office acceptable by a look at neighbours alone, after the refusals 1 to 10 and 12. Assumes nothing.
-use Rattle.std.specs.Prelude.{◌≡◌, true, ℕ, ◌+◌, ◌*◌, ◌%◌, ◌<◌, ◌≤◌, ℤ, pos, ◌<ℤ◌, get_or}
+use Rattle.std.specs.Prelude.{◌≡◌, Option, MatchOption, true, ℕ, ◌+◌, ◌*◌, ◌%◌, ◌<◌, ◌≤◌, ℤ, pos, ◌<ℤ◌, get_or}
 use Rattle.laws.specs.First.{first}
 use Rattle.laws.specs.Round.{Round}
 use Rattle.sheet.specs.Plane.{Point, spot, turn, circle}
@@ -71,10 +71,9 @@ AllClear o = (s : ℕ) → s < sides o → Clear o s
 abbrev pub AllSmooth : Office → Type 0
 AllSmooth o = (lowest : ℕ) × ((p : ℕ) → p < points o → SmoothFrom o lowest p)
 
--- t is a triangle with a point strictly inside its circle, or the number of triangles
-pub record Foremost (o : Office) (t : ℕ) : Type 0 where
-  pub within : t ≤ triangles o
-  pub is_invaded : t < triangles o → invaded o t ≡ true
+-- a triangle, if one is given, has a point strictly inside its circle
+abbrev pub Foremost : Office → Option ℕ → Type 0
+Foremost o t = MatchOption t (Unit {0}) (λ t. (t < triangles o) × (invaded o t ≡ true))
 
 pub record Neat (o : Office) : Type 0 where
   pub clear : AllClear o

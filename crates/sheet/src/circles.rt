@@ -1,23 +1,25 @@
 // Refusal 11: a point strictly inside a triangle's circle. No public call.
-ghost use Rattle.std.specs.Prelude.{◌≡◌, ◌+◌, ◌*◌, ◌/◌, ◌<◌, ◌≤◌, pos, nat_abs, ◌+ℤ◌, ◌-ℤ◌, ◌*ℤ◌, length, take};
+ghost use Rattle.std.specs.Prelude.{◌≡◌, ◌+◌, ◌*◌, ◌/◌, ◌<◌, ◌≤◌, pos, nat_abs, ◌+ℤ◌, ◌-ℤ◌, ◌*ℤ◌, length, get_or, take};
 ghost use Rattle.std.specs.Int.Signed.{lt_z};
-ghost use Rattle.laws.specs.First.{first, table};
+ghost use Rattle.laws.specs.First.{lowest, table};
 ghost use Rattle.sheet.specs.Plane.{spot, Small};
 ghost use Rattle.sheet.specs.Plane as plane;
-ghost use Rattle.sheet.specs.Office.{office, invaded};
-ghost use Rattle.sheet.specs.Code.{Plotted, height, Coefficients, linear};
+ghost use Rattle.sheet.specs.Office.{invaded};
+ghost use Rattle.sheet.specs.Code.{height, raised, swept, Coefficients, linear};
+ghost use Rattle.sheet.specs.Values.{at, office_of};
 ghost use Rattle.sheet.specs.Quick.{Foremost};
 
-use super::plane::{dot, turn};
-use super::spots::{corner_at, point_at};
+use crate::plane::{dot, turn};
+use crate::spots::{Plot, Spot};
 
 // The in-circle value at (x, y) is across x + up y + rest - lift (x² + y²): the first four once a triangle, three products a point.
-#[derive(Clone, Copy)]
+#[derive(Clone, Copy, Debug, PartialEq, Eq)]
 pub struct Circle {
     pub across: i64,
     pub up: i64,
     pub rest: i64,
     pub lift: i64,
+    pub ghost fits: { (nat_abs across ≤ 26383447523322) × (nat_abs up ≤ 26383447523322) × (nat_abs rest ≤ 864480041549168652) × (nat_abs lift ≤ 536805378) },
 }
 
 // a b c of at most 2 · 16,383² each, as weights: no sum is above 3 · (2 · 16,383²)².
@@ -27,14 +29,6 @@ fn weighted(a: i64, u: i64, b: i64, v: i64, c: i64, w: i64) -> i64
     ensures { result ≡ a *ℤ u +ℤ b *ℤ v +ℤ c *ℤ w }
 {
     a * u + b * v + c * w
-}
-
-// Twice a signed area, widened for products.
-fn bend(ax: u16, ay: u16, bx: u16, by: u16, cx: u16, cy: u16) -> i64
-    requires { Small (spot ax ay) × Small (spot bx by) × Small (spot cx cy) }
-    ensures { (result ≡ plane.turn (spot ax ay) (spot bx by) (spot cx cy)) × (nat_abs result ≤ 536805378) }
-{
-    turn(ax, ay, bx, by, cx, cy) as i64
 }
 
 // Whether a u + b v is negative: no sum is above 2 · (2 · 16,383²)².
@@ -47,23 +41,11 @@ fn is_below(a: i32, u: i32, b: i32, v: i32) -> bool
 }
 
 // Whether d lies strictly inside the circle through a b c, whose doubled area is at hand: by the angles at c and at d over a b.
-pub fn holds(
-    area: i32,
-    ax: u16,
-    ay: u16,
-    bx: u16,
-    by: u16,
-    cx: u16,
-    cy: u16,
-    dx: u16,
-    dy: u16,
-) -> bool
-    requires { Small (spot ax ay) × Small (spot bx by) × Small (spot cx cy) × Small (spot dx dy) × (area ≡ plane.turn (spot ax ay) (spot bx by) (spot cx cy)) }
-    ensures { result ≡ lt_z (pos 0) (plane.circle (spot ax ay) (spot bx by) (spot cx cy) (spot dx dy)) }
+pub fn holds(area: i32, a: Spot, b: Spot, c: Spot, d: Spot) -> bool
+    requires { area ≡ plane.turn (at a) (at b) (at c) }
+    ensures { result ≡ lt_z (pos 0) (plane.circle (at a) (at b) (at c) (at d)) }
 {
-    let near = dot(cx, cy, ax, ay, bx, by);
-    let beyond = dot(dx, dy, ax, ay, bx, by);
-    is_below(near, turn(dx, dy, bx, by, ax, ay), area, beyond)
+    is_below(dot(c, a, b), turn(d, b, a), area, dot(d, a, b))
 }
 
 fn gap(a: u16, b: u16) -> i64
@@ -73,11 +55,10 @@ fn gap(a: u16, b: u16) -> i64
     b as i64 - a as i64
 }
 
-fn cross(ax: u16, ay: u16, bx: u16, by: u16) -> i64
-    requires { Small (spot ax ay) × Small (spot bx by) }
-    ensures { (result ≡ pos ax *ℤ pos by -ℤ pos bx *ℤ pos ay) × (nat_abs result ≤ 536805378) }
+fn cross(a: Spot, b: Spot) -> i64
+    ensures { (result ≡ swept (at a) (at b)) × (nat_abs result ≤ 536805378) }
 {
-    ax as i64 * by as i64 - bx as i64 * ay as i64
+    a.x as i64 * b.y as i64 - b.x as i64 * a.y as i64
 }
 
 // x² + y², at most 2 · 16,383².
@@ -88,96 +69,70 @@ fn height_of(x: u16, y: u16) -> u32
     x as u32 * x as u32 + y as u32 * y as u32
 }
 
-fn raised(x: u16, y: u16) -> i64
-    requires { Small (spot x y) }
-    ensures { (result ≡ pos (x * x + y * y)) × (nat_abs result ≤ 536805378) }
+fn lifted(a: Spot) -> i64
+    ensures { (result ≡ raised (at a)) × (nat_abs result ≤ 536805378) }
 {
-    height_of(x, y) as i64
+    height_of(a.x, a.y) as i64
 }
 
-fn circle_through(ax: u16, ay: u16, bx: u16, by: u16, cx: u16, cy: u16) -> Circle
-    requires { Small (spot ax ay) × Small (spot bx by) × Small (spot cx cy) }
-    ensures { Coefficients (spot ax ay) (spot bx by) (spot cx cy) result.across result.up result.rest result.lift }
+fn circle_through(a: Spot, b: Spot, c: Spot) -> Circle
+    ensures { Coefficients (at a) (at b) (at c) result.across result.up result.rest result.lift }
 {
-    let a = raised(ax, ay);
-    let b = raised(bx, by);
-    let c = raised(cx, cy);
-    let across = weighted(a, gap(cy, by), b, gap(ay, cy), c, gap(by, ay));
-    let up = weighted(a, gap(bx, cx), b, gap(cx, ax), c, gap(ax, bx));
-    let rest = weighted(
-        a,
-        cross(bx, by, cx, cy),
-        b,
-        cross(cx, cy, ax, ay),
-        c,
-        cross(ax, ay, bx, by),
-    );
-    let lift = bend(ax, ay, bx, by, cx, cy);
+    let (u, v, w) = (lifted(a), lifted(b), lifted(c));
     Circle {
-        across: across,
-        up: up,
-        rest: rest,
-        lift: lift,
+        across: weighted(u, gap(c.y, b.y), v, gap(a.y, c.y), w, gap(b.y, a.y)),
+        up: weighted(u, gap(b.x, c.x), v, gap(c.x, a.x), w, gap(a.x, b.x)),
+        rest: weighted(u, cross(b, c), v, cross(c, a), w, cross(a, b)),
+        lift: i64::from(turn(a, b, c)),
     }
 }
 
 // Whether a point lies strictly inside: no sum is above 28 · 16,383⁴.
 fn is_inside(k: Circle, x: u16, y: u16, height: u32) -> bool
-    requires across_bound { (nat_abs k.across ≤ 26383447523322) × (nat_abs k.up ≤ 26383447523322) × (nat_abs k.rest ≤ 864480041549168652) × (nat_abs k.lift ≤ 536805378) }
-    requires small { Small (spot x y) × (height ≤ 536805378) }
+    requires { Small (spot x y) × (height ≤ 536805378) }
     ensures { result ≡ lt_z (pos 0) (linear k.across k.up k.rest k.lift x y height) }
 {
     0 < k.across * (x as i64) + k.up * (y as i64) + k.rest - k.lift * (height as i64)
 }
 
 // x² + y² of each point.
-fn heights(xs: &[u16], ys: &[u16], corners: &[u16]) -> [u32; 1024]
-    requires { Plotted (office xs.now ys.now corners.now) }
-    ensures { take (length xs.now) result ≡ table (height xs.now ys.now) (length xs.now) }
+fn heights(plot: &Plot) -> [u32; 1024]
+    ensures { take (length plot.now.xs.now) result ≡ table (height plot.now.xs.now plot.now.ys.now) (length plot.now.xs.now) }
 {
     let mut list = [0u32; 1024];
-    let mut p = 0;
-    while p < xs.len() {
-        let spot = point_at(xs, ys, corners, p);
+    for p in 0..plot.xs.len() {
+        let spot = plot.point(p);
         list[p] = height_of(spot.x, spot.y);
-        p += 1;
     }
     list
 }
 
+// Whether point p lies strictly inside a circle.
+fn is_within(plot: &Plot, heights: &[u32; 1024], circle: Circle, p: usize) -> bool
+    requires point { p < length plot.now.xs.now }
+    requires height { get_or heights.now p 0 ≤ 536805378 }
+    ensures { result ≡ lt_z (pos 0) (linear circle.across circle.up circle.rest circle.lift (get_or plot.now.xs.now p 0) (get_or plot.now.ys.now p 0) (get_or heights.now p 0)) }
+{
+    is_inside(circle, plot.xs[p], plot.ys[p], heights[p])
+}
+
 // Whether a point lies strictly inside the circle of triangle t.
-fn is_invaded(xs: &[u16], ys: &[u16], corners: &[u16], raised: &[u32; 1024], t: usize) -> bool
-    requires plotted { Plotted (office xs.now ys.now corners.now) × (t < length corners.now / 3) }
-    requires raised_value { take (length xs.now) raised.now ≡ table (height xs.now ys.now) (length xs.now) }
-    ensures { result ≡ invaded (office xs.now ys.now corners.now) t }
+fn is_invaded(plot: &Plot, heights: &[u32; 1024], t: usize) -> bool
+    requires triangle { t < length plot.now.corners.now / 3 }
+    requires heights_value { take (length plot.now.xs.now) heights.now ≡ table (height plot.now.xs.now plot.now.ys.now) (length plot.now.xs.now) }
+    ensures { result ≡ invaded (office_of plot.now) t }
 {
     let s = t * 3;
-    let a = corner_at(xs, ys, corners, s);
-    let b = corner_at(xs, ys, corners, s + 1);
-    let c = corner_at(xs, ys, corners, s + 2);
-    let circle = circle_through(a.x, a.y, b.x, b.y, c.x, c.y);
-    let mut p = 0;
-    while p < xs.len() {
-        if is_inside(circle, xs[p], ys[p], raised[p]) {
-            return true;
-        }
-        p += 1;
-    }
-    false
+    let circle = circle_through(plot.corner(s), plot.corner(s + 1), plot.corner(s + 2));
+    (0..plot.xs.len()).any(|p| is_within(plot, heights, circle, p))
 }
 
 // The first such triangle. Where a look at neighbours has found one, `bad`, only those before it are asked.
-pub fn first_invaded(xs: &[u16], ys: &[u16], corners: &[u16], bad: usize) -> usize
-    requires { Plotted (office xs.now ys.now corners.now) × Foremost (office xs.now ys.now corners.now) bad }
-    ensures { result ≡ first (invaded (office xs.now ys.now corners.now)) (length corners.now / 3) }
+pub fn first_invaded(plot: &Plot, bad: Option<usize>) -> Option<usize>
+    requires { Foremost (office_of plot.now) bad }
+    ensures { result ≡ lowest (invaded (office_of plot.now)) (length plot.now.corners.now / 3) }
 {
-    let raised = heights(xs, ys, corners);
-    let mut t = 0;
-    while t < bad {
-        if is_invaded(xs, ys, corners, &raised, t) {
-            return t;
-        }
-        t += 1;
-    }
-    t
+    let heights = heights(plot);
+    let end = bad.unwrap_or(plot.corners.len() / 3);
+    (0..end).find(|&t| is_invaded(plot, &heights, t)).or(bad)
 }

@@ -6,49 +6,34 @@ pub mod circles;
 pub mod plane;
 pub mod points;
 mod quick;
+mod refusal;
 pub mod ring;
 pub mod sides;
-mod spots;
+pub mod spots;
 pub mod triangles;
 
-ghost use Rattle.std.specs.Prelude.{◌≡◌, true, length, ◌%◌, ◌<◌, ◌≤◌};
+ghost use Rattle.std.specs.Prelude.{◌≡◌, true, length, ◌%◌, ◌≤◌};
 ghost use Rattle.sheet.specs.Office.{office};
-ghost use Rattle.sheet.specs.Verdict as Verdict;
 ghost use Rattle.sheet.specs.Verdict.{verdict, points_verdict, areas_verdict, sides_verdict, rim_verdict};
 ghost use Rattle.sheet.specs.Acceptable.{Left, Single, Used};
-ghost use Rattle.sheet.specs.Code.{Plotted, Mated};
 ghost use Rattle.sheet.specs.Answer.{answer, handed, Ready};
+ghost use Rattle.sheet.specs.Values.{office_of};
 
 use circles::first_invaded;
-use points::{first_again, first_large};
-use quick::{first_bad, is_convex};
-use ring::{first_outer, is_one_ring, leaving, rim_length};
-use sides::{chain_sides, pair_sides};
-use triangles::{first_double, first_flat, first_no_point, first_unused};
-
-// Document 01's number for what is wrong, and where.
-#[derive(Clone, Copy)]
-pub struct Refusal {
-    pub number: u8,
-    pub place: usize,
-}
-
-// What the check answers: the rim's length, or a refusal.
-#[derive(Clone, Copy)]
-pub enum Checked {
-    Accepted(usize),
-    Refused(Refusal),
-}
+pub use refusal::{Refusal, Rule};
+use sides::{NONE, chain_sides, pair_sides};
+use spots::{Chain, Cloud, Mesh, Plot};
+use triangles::{first_no_point, first_unused};
 
 // Accepts exactly the acceptable offices, for all lists that can be lent.
-pub fn check(xs: &[u16], ys: &[u16], corners: &[u16]) -> Checked
+pub fn check(xs: &[u16], ys: &[u16], corners: &[u16]) -> Result<usize, Refusal>
     ensures { answer result ≡ verdict true (office xs.now ys.now corners.now) }
 {
     check_lent(xs, ys, corners, true)
 }
 
 // The same for a layer above that lends buffers: `room` says whether they are long enough, and refusal 4 has its place in the order.
-pub fn check_lent(xs: &[u16], ys: &[u16], corners: &[u16], room: bool) -> Checked
+pub fn check_lent(xs: &[u16], ys: &[u16], corners: &[u16], room: bool) -> Result<usize, Refusal>
     ensures { answer result ≡ verdict room (office xs.now ys.now corners.now) }
 {
     let mut made = [0u16; 6129];
@@ -63,18 +48,14 @@ pub fn check_mates(
     corners: &[u16],
     room: bool,
     mate: &mut [u16; 6129],
-) -> Checked
+) -> Result<usize, Refusal>
     ensures result_value { answer result ≡ verdict room (office xs.now ys.now corners.now) }
     ensures mate_after { mate.new ≡ handed (answer result) corners.now mate.old }
 {
     let mut made = [0u16; 6129];
-    match check_sizes(xs, ys, corners, room, &mut made) {
-        Checked::Accepted(hull) => {
-            *mate = made;
-            Checked::Accepted(hull)
-        }
-        Checked::Refused(refusal) => Checked::Refused(refusal),
-    }
+    let hull = check_sizes(xs, ys, corners, room, &mut made)?;
+    *mate = made;
+    Ok(hull)
 }
 
 // All refusals. Where the office is accepted, `mate` begins with its table of mates.
@@ -84,112 +65,103 @@ fn check_sizes(
     corners: &[u16],
     room: bool,
     mate: &mut [u16; 6129],
-) -> Checked
-    requires { length mate.old ≡ 6129 }
+) -> Result<usize, Refusal>
     ensures result_value { answer result ≡ verdict room (office xs.now ys.now corners.now) }
     ensures ready { Ready (answer result) corners.now mate.old mate.new }
 {
     if xs.len() != ys.len() {
-        return refused(1, 0);
+        return Err(Rule::UnequalLists.at(0));
     }
     if (xs.len() < 3) | (1024 < xs.len()) {
-        return refused(2, 0);
+        return Err(Rule::PointCount.at(0));
     }
     if (corners.len() == 0) | (corners.len() % 3 != 0) | (6129 < corners.len()) {
-        return refused(3, 0);
+        return Err(Rule::CornerCount.at(0));
     }
     if !room {
-        return refused(4, 0);
+        return Err(Rule::ShortBuffer.at(0));
     }
     check_points(xs, ys, corners, mate)
 }
 
-fn refused(number: u8, place: usize) -> Checked
-    ensures { answer result ≡ Verdict.refused number place }
-{
-    Checked::Refused(Refusal {
-        number: number,
-        place: place,
-    })
-}
-
 // Refusals 5 to 7, and those after them.
-fn check_points(xs: &[u16], ys: &[u16], corners: &[u16], mate: &mut [u16; 6129]) -> Checked
-    requires { (length xs.now ≡ length ys.now) × (3 ≤ length xs.now) × (length xs.now ≤ 1024) × (length corners.now % 3 ≡ 0) × (length corners.now ≤ 6129) × (length mate.old ≡ 6129) }
+fn check_points(
+    xs: &[u16],
+    ys: &[u16],
+    corners: &[u16],
+    mate: &mut [u16; 6129],
+) -> Result<usize, Refusal>
+    requires { (length xs.now ≡ length ys.now) × (3 ≤ length xs.now) × (length xs.now ≤ 1024) × (length corners.now % 3 ≡ 0) × (length corners.now ≤ 6129) }
     ensures result_value { answer result ≡ points_verdict (office xs.now ys.now corners.now) }
     ensures ready { Ready (answer result) corners.now mate.old mate.new }
 {
-    let large = first_large(xs, ys);
-    if large < xs.len() {
-        return refused(5, large);
+    let cloud = Cloud { xs, ys };
+    if let Some(point) = cloud.first_large() {
+        return Err(Rule::LargeCoordinate.at(point));
     }
-    let again = first_again(xs, ys);
-    if again < xs.len() {
-        return refused(6, again);
+    if let Some(point) = cloud.first_again() {
+        return Err(Rule::RepeatedPoint.at(point));
     }
-    let no_point = first_no_point(xs, corners);
-    if no_point < corners.len() {
-        return refused(7, no_point);
+    if let Some(place) = first_no_point(xs, corners) {
+        return Err(Rule::NoPoint.at(place));
     }
-    check_areas(xs, ys, corners, mate)
+    check_areas(&Plot { xs, ys, corners }, mate)
 }
 
 // Refusal 8, and those after it.
-fn check_areas(xs: &[u16], ys: &[u16], corners: &[u16], mate: &mut [u16; 6129]) -> Checked
-    requires { Plotted (office xs.now ys.now corners.now) × (length mate.old ≡ 6129) }
-    ensures result_value { answer result ≡ areas_verdict (office xs.now ys.now corners.now) }
-    ensures ready { Ready (answer result) corners.now mate.old mate.new }
+fn check_areas(plot: &Plot, mate: &mut [u16; 6129]) -> Result<usize, Refusal>
+    ensures result_value { answer result ≡ areas_verdict (office_of plot.now) }
+    ensures ready { Ready (answer result) plot.now.corners.now mate.old mate.new }
 {
-    let flat = first_flat(xs, ys, corners);
-    if flat < corners.len() / 3 {
-        return refused(8, flat);
+    if let Some(triangle) = plot.first_flat() {
+        return Err(Rule::FlatTriangle.at(triangle));
     }
-    check_sides(xs, ys, corners, mate)
+    check_sides(plot, mate)
 }
 
 // Refusals 9 and 10, and those after them.
-fn check_sides(xs: &[u16], ys: &[u16], corners: &[u16], mate: &mut [u16; 6129]) -> Checked
-    requires { Plotted (office xs.now ys.now corners.now) × Left (office xs.now ys.now corners.now) × (length mate.old ≡ 6129) }
-    ensures result_value { answer result ≡ sides_verdict (office xs.now ys.now corners.now) }
-    ensures ready { Ready (answer result) corners.now mate.old mate.new }
+fn check_sides(plot: &Plot, mate: &mut [u16; 6129]) -> Result<usize, Refusal>
+    requires { Left (office_of plot.now) }
+    ensures result_value { answer result ≡ sides_verdict (office_of plot.now) }
+    ensures ready { Ready (answer result) plot.now.corners.now mate.old mate.new }
 {
-    let mut earlier = [65535u16; 6129];
-    let mut latest = [65535u16; 1024];
+    let corners = plot.corners;
+    let mut earlier = [NONE; 6129];
+    let mut latest = [NONE; 1024];
     chain_sides(corners, &mut earlier, &mut latest);
-    let single = pair_sides(corners, &earlier, &latest, mate);
-    if !single {
-        return refused(9, first_double(corners, &earlier));
+    if !pair_sides(corners, &earlier, &latest, mate) {
+        let earlier = &earlier;
+        let triangle = Chain { corners, earlier }.first_double();
+        return Err(Rule::RepeatedSide.at(triangle.unwrap()));
     }
-    let unused = first_unused(corners, &latest, xs.len());
-    if unused < xs.len() {
-        return refused(10, unused);
+    if let Some(point) = first_unused(corners, &latest, plot.xs.len()) {
+        return Err(Rule::UnusedPoint.at(point));
     }
-    check_rim(xs, ys, corners, mate)
+    check_rim(&Mesh { plot: *plot, mate })
 }
 
 // Refusals 11 to 13, and acceptance: at once where a look at neighbours is enough.
-fn check_rim(xs: &[u16], ys: &[u16], corners: &[u16], mate: &[u16; 6129]) -> Checked
-    requires { Plotted (office xs.now ys.now corners.now) × Left (office xs.now ys.now corners.now) × Single (office xs.now ys.now corners.now) × Used (office xs.now ys.now corners.now) × Mated corners.now mate.now }
-    ensures { answer result ≡ rim_verdict (office xs.now ys.now corners.now) }
+fn check_rim(mesh: &Mesh) -> Result<usize, Refusal>
+    requires { Left (office_of mesh.now.plot) × Single (office_of mesh.now.plot) × Used (office_of mesh.now.plot) }
+    ensures { answer result ≡ rim_verdict (office_of mesh.now.plot) }
 {
-    let rim = rim_length(corners, mate);
-    let onward = leaving(corners, mate);
-    let one = is_one_ring(corners, mate, &onward, rim);
-    let convex = is_convex(xs, ys, corners, &onward);
-    let bad = first_bad(xs, ys, corners, mate);
-    if one & convex & (corners.len() / 3 <= bad) {
-        return Checked::Accepted(rim);
+    let mates = mesh.mates();
+    let rim = mates.rim_length();
+    let onward = mates.leaving();
+    let one = mates.is_one_ring(&onward, rim);
+    let convex = mesh.plot.is_convex(&onward);
+    let bad = mesh.first_bad();
+    if one & convex & bad.is_none() {
+        return Ok(rim);
     }
-    let invaded = first_invaded(xs, ys, corners, bad);
-    if invaded < corners.len() / 3 {
-        return refused(11, invaded);
+    if let Some(triangle) = first_invaded(&mesh.plot, bad) {
+        return Err(Rule::InvadedCircle.at(triangle));
     }
     if !one {
-        return refused(12, 0);
+        return Err(Rule::BrokenRim.at(0));
     }
-    let outer = first_outer(xs, ys, corners, mate);
-    if outer < xs.len() {
-        return refused(13, outer);
+    if let Some(point) = mesh.first_outer() {
+        return Err(Rule::OuterPoint.at(point));
     }
-    Checked::Accepted(rim)
+    Ok(rim)
 }

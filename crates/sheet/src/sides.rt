@@ -6,9 +6,12 @@ ghost use Rattle.sheet.specs.Office.{bare, next, last};
 ghost use Rattle.sheet.specs.Acceptable.{Single};
 ghost use Rattle.sheet.specs.Code.{Numbered, starts, Chained, Mated, back_along, Noted, Placed, Righted};
 
-use super::plane::wide;
+use crate::spots::Chain;
 
-// The place of the corner after s in its triangle: by comparing, with no quotient.
+// No side, and no point: an `Option<u16>` would take four bytes in place of two, in tables that the check makes anew at each call.
+pub const NONE: u16 = 65535;
+
+// The place of the corner after s in its triangle: by comparing, with no quotient. One function for this and the next would compare once more.
 pub fn next_of(s: usize) -> usize
     requires { s < 65535 }
     ensures { result ≡ next s }
@@ -29,32 +32,13 @@ pub fn chain_sides(corners: &[u16], earlier: &mut [u16; 6129], latest: &mut [u16
     requires { Numbered corners.now 1024 × (length corners.now ≤ 6129) }
     ensures { Chained corners.now earlier.new latest.new }
 {
-    *earlier = [65535u16; 6129];
-    *latest = [65535u16; 1024];
-    let mut s = 0;
-    while s < corners.len() {
-        let p = wide(corners[s]);
+    *earlier = [NONE; 6129];
+    *latest = [NONE; 1024];
+    for s in 0..corners.len() {
+        let p = usize::from(corners[s]);
         earlier[s] = latest[p];
         latest[p] = s as u16;
-        s += 1;
     }
-}
-
-// Of the sides from the point where side `begun` starts, up to that side, the latest that ends at `to`; 65,535 for none.
-pub fn run_back(corners: &[u16], earlier: &[u16; 6129], begun: usize, to: u16) -> usize
-    requires corners_len { (length corners.now % 3 ≡ 0) × (length corners.now ≤ 6129) × (begun < 65535 → begun < length corners.now) }
-    requires by_index { (s : ℕ) → s < length corners.now → get_or earlier.now s 0 ≡ final 65535 (starts corners.now (get_or corners.now s 0)) s }
-    ensures { result ≡ back_along corners.now to begun }
-{
-    let mut r = begun;
-    while r < 65535 {
-        let e = r / 3 * 3 + (r + 1) % 3;
-        if corners[e] == to {
-            return r;
-        }
-        r = wide(earlier[r]);
-    }
-    65535
 }
 
 // Whether side s, of which 65,535 is none, starts at point p.
@@ -63,36 +47,10 @@ fn is_from(corners: &[u16], p: usize, s: usize) -> bool
     ensures { result ≡ (ltb s 65535 && eqb (get_or corners.now s 0) p) }
 {
     if s < 65535 {
-        let q = wide(corners[s]);
+        let q = usize::from(corners[s]);
         return q == p;
     }
     false
-}
-
-// Notes each side from point p, of which `begun` is the latest, at the point where it ends: false where two end alike.
-fn note_ends(
-    corners: &[u16],
-    earlier: &[u16; 6129],
-    noted: &mut [u16; 1024],
-    p: usize,
-    begun: usize,
-) -> bool
-    requires corners_len { (length corners.now % 3 ≡ 0) × (length corners.now ≤ 6129) × Numbered corners.now 1024 × (begun ≡ final 65535 (starts corners.now p) (length corners.now)) }
-    requires by_index { ((s : ℕ) → s < length corners.now → get_or earlier.now s 0 ≡ final 65535 (starts corners.now (get_or corners.now s 0)) s) × Noted corners.now p noted.old }
-    ensures { (result ≡ true → Noted corners.now (p + 1) noted.new × Placed corners.now p noted.new) × (result ≡ false → Single (bare corners.now) → ⊥) }
-{
-    let mut r = begun;
-    while r < 65535 {
-        let e = next_of(r);
-        let q = wide(corners[e]);
-        let old = wide(noted[q]);
-        if is_from(corners, p, old) {
-            return false;
-        }
-        noted[q] = r as u16;
-        r = wide(earlier[r]);
-    }
-    true
 }
 
 // The mate of a side to point p that starts where side `noted` ends: that one where it starts at p, or the number of sides.
@@ -100,32 +58,61 @@ fn mate_noted(corners: &[u16], p: usize, noted: u16) -> u16
     requires { (noted < 65535 → noted < length corners.now) × (length corners.now ≤ 6129) }
     ensures { result ≡ cond (ltb noted 65535 && eqb (get_or corners.now noted 0) p) noted (length corners.now) }
 {
-    let back = is_from(corners, p, wide(noted));
+    let back = is_from(corners, p, usize::from(noted));
     if back {
         return noted;
     }
     corners.len() as u16
 }
 
-// The mates of the sides to point p: each stands before a side from p in its triangle.
-fn note_mates(
-    corners: &[u16],
-    earlier: &[u16; 6129],
-    noted: &[u16; 1024],
-    mate: &mut [u16; 6129],
-    p: usize,
-    begun: usize,
-)
-    requires corners_len { (length corners.now % 3 ≡ 0) × (length corners.now ≤ 6129) × Numbered corners.now 1024 × (begun ≡ final 65535 (starts corners.now p) (length corners.now)) }
-    requires by_index { ((s : ℕ) → s < length corners.now → get_or earlier.now s 0 ≡ final 65535 (starts corners.now (get_or corners.now s 0)) s) × Noted corners.now (p + 1) noted.now × Placed corners.now p noted.now × (length mate.old ≡ 6129) }
-    ensures { Righted corners.now p mate.old mate.new }
-{
-    let mut s = begun;
-    while s < 65535 {
-        let l = last_of(s);
-        let q = wide(corners[l]);
-        mate[l] = mate_noted(corners, p, noted[q]);
-        s = wide(earlier[s]);
+impl<'a> Chain<'a> {
+    // Of the sides from the point where side `begun` starts, up to that side, the latest that ends at `to`; 65,535 for none.
+    pub fn run_back(&self, begun: usize, to: u16) -> usize
+        requires { begun < 65535 → begun < length self.now.corners.now }
+        ensures { result ≡ back_along self.now.corners.now to begun }
+    {
+        let mut r = begun;
+        while r < 65535 {
+            if self.corners[next_of(r)] == to {
+                return r;
+            }
+            r = usize::from(self.earlier[r]);
+        }
+        65535
+    }
+
+    // Notes each side from point p, of which `begun` is the latest, at the point where it ends: false where two end alike.
+    fn note_ends(&self, noted: &mut [u16; 1024], p: usize, begun: usize) -> bool
+        requires numbered { Numbered self.now.corners.now 1024 × (begun ≡ final 65535 (starts self.now.corners.now p) (length self.now.corners.now)) }
+        requires noted_so_far { Noted self.now.corners.now p noted.old }
+        ensures { (result ≡ true → Noted self.now.corners.now (p + 1) noted.new × Placed self.now.corners.now p noted.new) × (result ≡ false → Single (bare self.now.corners.now) → ⊥) }
+    {
+        let mut r = begun;
+        while r < 65535 {
+            let q = usize::from(self.corners[next_of(r)]);
+            let old = usize::from(noted[q]);
+            if is_from(self.corners, p, old) {
+                return false;
+            }
+            noted[q] = r as u16;
+            r = usize::from(self.earlier[r]);
+        }
+        true
+    }
+
+    // The mates of the sides to point p: each stands before a side from p in its triangle.
+    fn note_mates(&self, noted: &[u16; 1024], mate: &mut [u16; 6129], p: usize, begun: usize)
+        requires numbered { Numbered self.now.corners.now 1024 × (begun ≡ final 65535 (starts self.now.corners.now p) (length self.now.corners.now)) }
+        requires noted_all { Noted self.now.corners.now (p + 1) noted.now × Placed self.now.corners.now p noted.now }
+        ensures { Righted self.now.corners.now p mate.old mate.new }
+    {
+        let mut s = begun;
+        while s < 65535 {
+            let l = last_of(s);
+            let q = usize::from(self.corners[l]);
+            mate[l] = mate_noted(self.corners, p, noted[q]);
+            s = usize::from(self.earlier[s]);
+        }
     }
 }
 
@@ -137,19 +124,17 @@ pub fn pair_sides(
     latest: &[u16; 1024],
     mate: &mut [u16; 6129],
 ) -> bool
-    requires { (length corners.now % 3 ≡ 0) × (length corners.now ≤ 6129) × Numbered corners.now 1024 × Chained corners.now earlier.now latest.now × (length mate.old ≡ 6129) }
+    requires { (length corners.now % 3 ≡ 0) × (length corners.now ≤ 6129) × Numbered corners.now 1024 × Chained corners.now earlier.now latest.now }
     ensures { (result ≡ true → Single (bare corners.now) × Mated corners.now mate.new × (drop (length corners.now) mate.new ≡ drop (length corners.now) mate.old)) × (result ≡ false → Single (bare corners.now) → ⊥) }
 {
-    let mut noted = [65535u16; 1024];
-    let mut p = 0;
-    while p < 1024 {
-        let begun = wide(latest[p]);
-        let apart = note_ends(corners, earlier, &mut noted, p, begun);
-        if !apart {
+    let chain = Chain { corners, earlier };
+    let mut noted = [NONE; 1024];
+    for p in 0..1024 {
+        let begun = usize::from(latest[p]);
+        if !chain.note_ends(&mut noted, p, begun) {
             return false;
         }
-        note_mates(corners, earlier, &noted, mate, p, begun);
-        p += 1;
+        chain.note_mates(&noted, mate, p, begun);
     }
     true
 }
@@ -159,8 +144,8 @@ pub fn mates(corners: &[u16]) -> [u16; 6129]
     requires { (length corners.now % 3 ≡ 0) × (length corners.now ≤ 6129) × Numbered corners.now 1024 × Single (bare corners.now) }
     ensures { Mated corners.now result }
 {
-    let mut earlier = [65535u16; 6129];
-    let mut latest = [65535u16; 1024];
+    let mut earlier = [NONE; 6129];
+    let mut latest = [NONE; 1024];
     chain_sides(corners, &mut earlier, &mut latest);
     let mut mate = [0u16; 6129];
     pair_sides(corners, &earlier, &latest, &mut mate);
