@@ -1,5 +1,8 @@
 -- What the promises of draw and list say of each answer: where it is a tally or a count, the check accepts and the lists are written; where it is
 -- a refusal, it is the check's, and the lists are as lent. Assumes nothing.
+use Rattle.rim.specs.declared.Tally.{Tally}
+use Rattle.sheet.specs.declared.refusal.Refusal.{Refusal}
+use Rattle.std.specs.Prelude.{Result}
 use mathlib.Core.Path.{◌≡◌, refl, sym, ap, ◌∙◌}
 use mathlib.Core.List.{List}
 use Prim.Native.Nat.{ℕ}
@@ -11,8 +14,6 @@ use Rattle.rim.specs.Peel.{drawn, rims, peeled, doubled}
 use Rattle.peel.specs.List.{entries}
 use Rattle.peel.specs.Answer.{tally, count, refusal, draw_answer, list_answer, drawing, listing, draw_room, list_room, column, DrawPromise, ListPromise}
 use Rattle.peel.specs.Code.{Lent}
-use Rattle.peel.specs.declared.Drawn.{Drawn}
-use Rattle.peel.specs.declared.Listed.{Listed}
 use Rattle.peel.proofs.Outcomes.{draw_given, draw_refused, list_given, list_refused}
 
 tally_not : {p a m n q : ℕ} → tally p a m ≡ refusal n q → ⊥
@@ -24,7 +25,7 @@ count-not e = let z : ◌≡◌ {A = ℕ} 0 1 = cc in omega arith
 pub same_refused : {c p n q : ℕ} → refusal c p ≡ refusal n q → refused c p ≡ refused n q
 same_refused e = cc
 
-module _ {xs ys corners : List ℕ} {limit : ℕ} {kept rim round : List ℕ} {r : Drawn} {k i g : List ℕ} (d : DrawPromise xs ys corners limit kept rim round r k i g) where
+module _ {xs ys corners : List ℕ} {limit : ℕ} {kept rim round : List ℕ} {r : Result Tally Refusal} {k i g : List ℕ} (d : DrawPromise xs ys corners limit kept rim round r k i g) where
   abbrev o : Office
   o = office xs ys corners
 
@@ -58,7 +59,7 @@ module _ {xs ys corners : List ℕ} {limit : ℕ} {kept rim round : List ℕ} {r
       by (accepted h) w = absurd (tally_not (sym (draw_lent w).0 ∙ e))
       by (refused c p) w = let (f, x, y, z) = draw_unlent w in (w ∙ same_refused (sym f ∙ e), x, y, z)
 
-module _ {xs ys corners kept rim round least peels area : List ℕ} {r : Listed} {k i g l p a : List ℕ} (d : ListPromise xs ys corners kept rim round least peels area r k i g l p a) where
+module _ {xs ys corners kept rim round least peels area : List ℕ} {r : Result ℕ Refusal} {k i g l p a : List ℕ} (d : ListPromise xs ys corners kept rim round least peels area r k i g l p a) where
   abbrev u : Office
   u = office xs ys corners
 

@@ -1,41 +1,30 @@
 -- From what the check and the work on an accepted office promise to what draw and list promise. Assumes nothing.
-use mathlib.Core.Path.{◌≡◌, sym, ap, ◌∙◌}
+use mathlib.Core.Path.{◌≡◌, sym, ap, subst, ◌∙◌}
 use mathlib.Core.Bool.{Bool, true, ◌&&◌}
 use mathlib.Core.List.{List, []}
 use Prim.Native.Nat.{ℕ, ◌+◌, ◌-◌, ◌/◌, ◌≤◌}
 use native.Mathlib.Omega.{arith}
 use lib.Dec.{leb}
-use lib.ListN.{length, take, drop, replicate}
-use lib.Seq.{take_at}
-use Rattle.laws.specs.First.{table}
-use Rattle.laws.proofs.Fill.{length-table}
+use lib.ListN.{length}
 use Rattle.laws.proofs.Test.{and_iff, leb_iff}
-use Rattle.sheet.specs.Office.{Office, office, points, triangles, rims, mate_of}
+use Rattle.sheet.specs.Office.{Office, office, points, triangles}
 use Rattle.sheet.specs.Verdict.{verdict}
-use Rattle.sheet.specs.Acceptable.{Acceptable}
-use Rattle.sheet.specs.Answer.{answer, handed}
-use Rattle.sheet.specs.declared.Checked.{Checked}
-use Rattle.sheet.specs.declared.Checked.TheVariants.{Accepted, Refused}
-use Rattle.sheet.specs.declared.Refusal.{Refusal}
+use Rattle.rim.specs.declared.office.Accepted.{Accepted}
+use Rattle.rim.specs.Plan.{plan}
+use Rattle.rim.specs.Accepting.{told_hull}
+use Rattle.std.specs.Prelude.{Result, Ok, Err}
+use Rattle.sheet.specs.declared.refusal.Refusal.{Refusal}
 use Rattle.rim.specs.Peel.{drawn, peeled as peeled_of, doubled, rims as rims_of}
 use Rattle.peel.specs.List.{entries}
 use Rattle.peel.specs.Answer.{tally, count, draw_answer, draw_room, list_room, drawing, listing, DrawPromise, ListPromise}
-use Rattle.peel.specs.declared.Drawn.TheVariants.{Outline, Refused as Undrawn}
-use Rattle.peel.specs.declared.Listed.TheVariants.{Entries, Refused as Unlisted}
 use Rattle.rim.specs.declared.Tally.{Tally}
 use Rattle.peel.specs.Code.{Lent, Outlined, Written}
 use Rattle.sheet.proofs.Accepted.{accepted_lent}
 use Rattle.peel.proofs.Outcomes.{draw_given, draw_refused, list_given, list_refused}
 
 -- the room found is the definition's, and what the check answers is the verdict
-by_verdict : (o : Office) {room enough : Bool} {x y : Checked} → room ≡ enough → answer x ≡ verdict room o → x ≡ y → verdict enough o ≡ answer y
-by_verdict o t e f = ap (λ b. verdict b o) (sym t) ∙ sym e ∙ ap answer f
-
--- an accepted office's table of mates stands in front
-pub mates_handed : (corners old mate : List ℕ) {x : Checked} {m : ℕ} → x ≡ Accepted m → mate ≡ handed (answer x) corners old → take (length corners) mate ≡ table (mate_of corners) (length corners)
-mates_handed corners old mate f e =
-    ap (take (length corners)) (e ∙ ap (λ y. handed (answer y) corners old) f)
-    ∙ take_at (table (mate_of corners) (length corners)) (drop (length corners) (replicate 6129 0)) (length corners) (length-table (mate_of corners) (length corners))
+by_verdict : (o : Office) {room enough : Bool} {x y : Result Accepted Refusal} → room ≡ enough → told_hull x ≡ verdict room o → x ≡ y → verdict enough o ≡ told_hull y
+by_verdict o t e f = ap (λ b. verdict b o) (sym t) ∙ sym e ∙ ap told_hull f
 
 draw_enough : (o : Office) (kept rim round : List ℕ) → draw_room o kept rim round ≡ true → (triangles o ≤ length kept) × (points o ≤ length rim) × (points o ≤ length round)
 draw_enough o kept rim round e =
@@ -55,25 +44,26 @@ module _ (xs ys corners : List ℕ) where
   abbrev o : Office
   o = office xs ys corners
 
-  module _ (limit : ℕ) (kept rim round : List ℕ) {room : Bool} {x : Checked} (t : room ≡ draw_room (office xs [] corners) kept rim round) (e : answer x ≡ verdict room o) where
-    pub draw_not : (r : Refusal) → x ≡ Refused r → DrawPromise xs ys corners limit kept rim round (Undrawn r) kept rim round
+  module _ (limit : ℕ) (kept rim round : List ℕ) {room : Bool} {x : Result Accepted Refusal} (t : room ≡ draw_room (office xs [] corners) kept rim round) (e : told_hull x ≡ verdict room o) where
+    pub draw_not : (r : Refusal) → x ≡ Err r → DrawPromise xs ys corners limit kept rim round (Err r) kept rim round
     unfolding drawing
     draw_not r f =
         let g = draw_refused xs ys corners limit kept rim round (by_verdict o t e f) in
         record { answers = sym (ap (λ a. a.answer) g); kept_is = sym (ap (λ a. a.kept) g); rim_is = sym (ap (λ a. a.rim) g); ring_is = sym (ap (λ a. a.ring) g) }
 
-    pub draw_may : (m : ℕ) → x ≡ Accepted m → Acceptable o × (m ≡ rims o) × (length corners / 3 ≤ length kept) × (length xs ≤ length rim) × (length xs ≤ length round)
-    draw_may m f =
-        let (h, a, l) = (accepted_lent (draw_room o kept rim round) o m).0 (by_verdict o t e f) in
+    pub draw_may : (a : Accepted) → x ≡ Ok a → plan a ≡ o → (length a.corners.now / 3 ≤ length kept) × (length a.xs.now ≤ length rim) × (length a.xs.now ≤ length round)
+    draw_may a f g =
+        let (h, _, _) = (accepted_lent (draw_room o kept rim round) o a.hull).0 (by_verdict o t e f) in
         let (u, v, w) = draw_enough o kept rim round h in
-        (a, l, u, v, w)
+        rw (ap (λ p. p.corners) g, ap (λ p. p.xs) g) (u, v, w)
 
-    pub draw_done : (m : ℕ) → x ≡ Accepted m → (n : Tally) {kept' rim' round' : List ℕ} → Outlined o (drawn o limit) kept rim round kept' rim' round' n.peeled n.area n.ring
-        → DrawPromise xs ys corners limit kept rim round (Outline n) kept' rim' round'
+    pub draw_done : (a : Accepted) → x ≡ Ok a → plan a ≡ o → (n : Tally) {kept' rim' round' : List ℕ} → Outlined (plan a) (drawn (plan a) limit) kept rim round kept' rim' round' n.peeled n.area n.ring
+        → DrawPromise xs ys corners limit kept rim round (Ok n) kept' rim' round'
     unfolding drawing
-    draw_done m f n d =
+    draw_done a f i n {kept'} {rim'} {round'} h =
+        let d = subst (λ p. Outlined p (drawn p limit) kept rim round kept' rim' round' n.peeled n.area n.ring) i h in
         let g = draw_given xs ys corners limit kept rim round (by_verdict o t e f) in
-        let z : draw_answer (Outline n) ≡ tally (peeled_of o (drawn o limit)) (doubled o (drawn o limit)) (rims_of o (drawn o limit)) = cc in
+        let z : draw_answer (Ok n) ≡ tally (peeled_of o (drawn o limit)) (doubled o (drawn o limit)) (rims_of o (drawn o limit)) = cc in
         record {
           answers = z ∙ sym (ap (λ a. a.answer) g);
           kept_is = d.lent.marks ∙ sym (ap (λ a. a.kept) g);
@@ -81,8 +71,8 @@ module _ (xs ys corners : List ℕ) where
           ring_is = d.lent.goes ∙ sym (ap (λ a. a.ring) g);
         }
 
-  module _ (kept rim round least peeled area : List ℕ) {room : Bool} {x : Checked} (t : room ≡ list_room (office xs [] corners) kept rim round least peeled area) (e : answer x ≡ verdict room o) where
-    pub list_not : (r : Refusal) → x ≡ Refused r → ListPromise xs ys corners kept rim round least peeled area (Unlisted r) kept rim round least peeled area
+  module _ (kept rim round least peeled area : List ℕ) {room : Bool} {x : Result Accepted Refusal} (t : room ≡ list_room (office xs [] corners) kept rim round least peeled area) (e : told_hull x ≡ verdict room o) where
+    pub list_not : (r : Refusal) → x ≡ Err r → ListPromise xs ys corners kept rim round least peeled area (Err r) kept rim round least peeled area
     unfolding listing
     list_not r f =
         let g = list_refused xs ys corners kept rim round least peeled area (by_verdict o t e f) in
@@ -96,19 +86,21 @@ module _ (xs ys corners : List ℕ) where
           area_is = sym (ap (λ a. a.area) g);
         }
 
-    pub list_may : (m : ℕ) → x ≡ Accepted m
-        → (Acceptable o × (m ≡ rims o) × (length corners / 3 ≤ length kept) × (length xs ≤ length rim) × (length xs ≤ length round))
-        × ((length xs ≤ length least + 2) × (length xs ≤ length peeled + 2) × (length xs ≤ length area + 2))
-    list_may m f =
-        let (h, a, l) = (accepted_lent (list_room o kept rim round least peeled area) o m).0 (by_verdict o t e f) in
+    pub list_may : (a : Accepted) → x ≡ Ok a → plan a ≡ o
+        → ((length a.corners.now / 3 ≤ length kept) × (length a.xs.now ≤ length rim) × (length a.xs.now ≤ length round))
+        × ((length a.xs.now ≤ length least + 2) × (length a.xs.now ≤ length peeled + 2) × (length a.xs.now ≤ length area + 2))
+    list_may a f g =
+        let (h, _, _) = (accepted_lent (list_room o kept rim round least peeled area) o a.hull).0 (by_verdict o t e f) in
         let (d, x, y, z) = list_enough o kept rim round least peeled area h in
         let (u, v, w) = draw_enough o kept rim round d in
-        ((a, l, u, v, w), (x, y, z))
+        rw (ap (λ p. p.corners) g, ap (λ p. p.xs) g) ((u, v, w), (x, y, z))
 
-    pub list_done : (m : ℕ) → x ≡ Accepted m → (n : ℕ) {kept' rim' round' least' peeled' area' : List ℕ} → Lent o (drawn o 0) kept rim round kept' rim' round'
-        → Written (entries o) least peeled area least' peeled' area' n → ListPromise xs ys corners kept rim round least peeled area (Entries n) kept' rim' round' least' peeled' area'
+    pub list_done : (a : Accepted) → x ≡ Ok a → plan a ≡ o → (n : ℕ) {kept' rim' round' least' peeled' area' : List ℕ} → Lent (plan a) (drawn (plan a) 0) kept rim round kept' rim' round'
+        → Written (entries (plan a)) least peeled area least' peeled' area' n → ListPromise xs ys corners kept rim round least peeled area (Ok n) kept' rim' round' least' peeled' area'
     unfolding listing drawing
-    list_done m f n d w =
+    list_done a f i n {kept'} {rim'} {round'} {least'} {peeled'} {area'} h b =
+        let d = subst (λ p. Lent p (drawn p 0) kept rim round kept' rim' round') i h in
+        let w = subst (λ p. Written (entries p) least peeled area least' peeled' area' n) i b in
         let g = list_given xs ys corners kept rim round least peeled area (by_verdict o t e f) in
         record {
           answers = ap count w.counts ∙ sym (ap (λ a. a.answer) g);

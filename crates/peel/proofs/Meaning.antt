@@ -1,4 +1,7 @@
 -- Whatever satisfies the promises of draw and list leaves in memory what document 01's demands 2 and 3 ask; a refusal leaves all as lent. Assumes nothing.
+use Rattle.rim.specs.declared.Tally.{Tally}
+use Rattle.sheet.specs.declared.refusal.Refusal.{Refusal}
+use Rattle.std.specs.Prelude.{Result}
 use mathlib.Core.Path.{◌≡◌, refl, sym, ap, ap₂, subst, subst₂, ◌∙◌}
 use mathlib.Core.Bool.{true}
 use mathlib.Core.List.{List, ◌++◌, map}
@@ -20,8 +23,6 @@ use Rattle.peel.specs.Answer.{tally, count, draw_answer, list_answer, draw_room,
 use Rattle.peel.specs.Code.{Lent}
 use Rattle.peel.specs.DrawnAt.{DrawnAt}
 use Rattle.peel.specs.Meaning.{Over, Shows, DrawMeans, ListMeans}
-use Rattle.peel.specs.declared.Drawn.{Drawn}
-use Rattle.peel.specs.declared.Listed.{Listed}
 use Rattle.peel.proofs.DrawEnds.{drawn_ends}
 use Rattle.peel.proofs.DrawnOutline.{drawn_outline}
 use Rattle.peel.proofs.EveryOutline.{list_complete}
@@ -71,7 +72,7 @@ list_places : (o : Office) (kept rim round least peels area : List ℕ) → list
 list_places o kept rim round least peels area e = let (((((x, y), z), l), p), a) = simp plain at e in (x, y, z, l, p, a)
 
 -- a draw that answers a tally
-pub draw_means : {xs ys corners : List ℕ} {limit : ℕ} {kept rim round : List ℕ} {r : Drawn} {kept' rim' round' : List ℕ} {p a m : ℕ}
+pub draw_means : {xs ys corners : List ℕ} {limit : ℕ} {kept rim round : List ℕ} {r : Result Tally Refusal} {kept' rim' round' : List ℕ} {p a m : ℕ}
     → DrawPromise xs ys corners limit kept rim round r kept' rim' round' → draw_answer r ≡ tally p a m → DrawMeans (office xs ys corners) limit p a m kept rim round kept' rim' round'
 draw_means {xs} {ys} {corners} {limit} {kept} {rim} {round} {r} {kept'} {rim'} {round'} {p} {a} {m} d e =
     let (h, v) = draw_accepted d e in
@@ -96,7 +97,7 @@ draw_means {xs} {ys} {corners} {limit} {kept} {rim} {round} {r} {kept'} {rim'} {
     o = office xs ys corners
 
 -- a list that answers a count
-pub list_means : {xs ys corners kept rim round least peels area : List ℕ} {r : Listed} {kept' rim' round' least' peels' area' : List ℕ} {c : ℕ}
+pub list_means : {xs ys corners kept rim round least peels area : List ℕ} {r : Result ℕ Refusal} {kept' rim' round' least' peels' area' : List ℕ} {c : ℕ}
     → ListPromise xs ys corners kept rim round least peels area r kept' rim' round' least' peels' area' → list_answer r ≡ count c
     → ListMeans (office xs ys corners) c kept rim round least peels area kept' rim' round' least' peels' area'
 list_means {xs} {ys} {corners} {kept} {rim} {round} {least} {peels} {area} {r} {kept'} {rim'} {round'} {least'} {peels'} {area'} {c} d e =
@@ -123,11 +124,11 @@ list_means {xs} {ys} {corners} {kept} {rim} {round} {least} {peels} {area} {r} {
     column_over {list} {now} a number l f = over (map number (entries o)) list now (length (entries o)) (length-map (entries o) number) (let h = entries_fit a in omega arith) f
 
 -- an acceptable office whose lent lists have room is not refused
-pub draw_answers : {xs ys corners : List ℕ} {limit : ℕ} {kept rim round : List ℕ} {r : Drawn} {kept' rim' round' : List ℕ} → DrawPromise xs ys corners limit kept rim round r kept' rim' round'
+pub draw_answers : {xs ys corners : List ℕ} {limit : ℕ} {kept rim round : List ℕ} {r : Result Tally Refusal} {kept' rim' round' : List ℕ} → DrawPromise xs ys corners limit kept rim round r kept' rim' round'
     → draw_room (office xs ys corners) kept rim round ≡ true → Acceptable (office xs ys corners) → (p : ℕ) × (a : ℕ) × (m : ℕ) × (draw_answer r ≡ tally p a m)
 draw_answers d room a = (_, _, _, (draw_lent d ((accepted_lent _ _ _).1 (room, a, refl))).0)
 
-pub list_answers : {xs ys corners kept rim round least peels area : List ℕ} {r : Listed} {kept' rim' round' least' peels' area' : List ℕ}
+pub list_answers : {xs ys corners kept rim round least peels area : List ℕ} {r : Result ℕ Refusal} {kept' rim' round' least' peels' area' : List ℕ}
     → ListPromise xs ys corners kept rim round least peels area r kept' rim' round' least' peels' area'
     → list_room (office xs ys corners) kept rim round least peels area ≡ true → Acceptable (office xs ys corners) → (c : ℕ) × (list_answer r ≡ count c)
 list_answers d room a = (_, (list_lent d ((accepted_lent _ _ _).1 (room, a, refl))).0)

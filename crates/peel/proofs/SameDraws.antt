@@ -1,4 +1,7 @@
 -- Document 02, 2/13, of the calls: what draw promises of two exports of an office. Assumes nothing.
+use Rattle.rim.specs.declared.Tally.{Tally}
+use Rattle.sheet.specs.declared.refusal.Refusal.{Refusal}
+use Rattle.std.specs.Prelude.{Result}
 use mathlib.Core.Path.{◌≡◌, refl, sym, ap, subst, ◌∙◌}
 use mathlib.Core.Bool.{true}
 use mathlib.Core.List.{List}
@@ -20,7 +23,6 @@ use Rattle.peel.specs.List.{outline}
 use Rattle.peel.specs.Answer.{tally, draw_answer, draw_room, used, DrawPromise}
 use Rattle.peel.specs.Code.{Lent}
 use Rattle.peel.specs.Renamed.{Turned}
-use Rattle.peel.specs.declared.Drawn.{Drawn}
 use Rattle.rim.proofs.Reached.{sound}
 use Rattle.peel.proofs.DrawEnds.{drawn_ends}
 use Rattle.peel.proofs.Answered.{draw_lent, draw_accepted}
@@ -87,7 +89,7 @@ module _ {o n : Office} (re : Renumbered o n) (a : Acceptable o) (limit : ℕ) w
 
 -- where one export's draw answers a tally, the other's does, if its lent lists have room: the same tally, and lists that are the same but for the new numbers
 pub draw_same : {xs ys corners xs' ys' corners' : List ℕ} (re : Renumbered (office xs ys corners) (office xs' ys' corners')) {limit : ℕ}
-    {kept rim round kept' rim' round' : List ℕ} {r r' : Drawn} {k i g k' i' g' : List ℕ} {p a m : ℕ}
+    {kept rim round kept' rim' round' : List ℕ} {r r' : Result Tally Refusal} {k i g k' i' g' : List ℕ} {p a m : ℕ}
     → DrawPromise xs ys corners limit kept rim round r k i g → DrawPromise xs' ys' corners' limit kept' rim' round' r' k' i' g'
     → draw_answer r ≡ tally p a m → draw_room (office xs' ys' corners') kept' rim' round' ≡ true
     → (draw_answer r' ≡ tally p a m) × SameLent re m k i g k' i' g'

@@ -1,4 +1,6 @@
 -- Document 02, 2/13, of the calls: what list promises of two exports of an office. Assumes nothing.
+use Rattle.sheet.specs.declared.refusal.Refusal.{Refusal}
+use Rattle.std.specs.Prelude.{Result}
 use mathlib.Core.Path.{◌≡◌, refl, sym, ap, ◌∙◌}
 use mathlib.Core.Bool.{true}
 use mathlib.Core.List.{List, map}
@@ -11,7 +13,6 @@ use Rattle.sheet.proofs.Accepted.{accepted_lent}
 use Rattle.rim.specs.Peel.{drawn, rims}
 use Rattle.peel.specs.List.{Entry, entries}
 use Rattle.peel.specs.Answer.{count, list_answer, list_room, column, ListPromise}
-use Rattle.peel.specs.declared.Listed.{Listed}
 use Rattle.peel.proofs.Answered.{list_lent, list_accepted}
 use Rattle.peel.proofs.MatchedList.{paired_length, same_column}
 use Rattle.peel.proofs.SameDraws.{SameLent, same, again, lent_same}
@@ -22,7 +23,7 @@ column_front o number list {l} {c} e f = ap (take c) f ∙ take_at (map number (
 
 -- where one export's list answers a count, the other's does, if its lent lists have room: as many entries, with the same least limits, peels and areas
 pub list_same : {xs ys corners xs' ys' corners' : List ℕ} (re : Renumbered (office xs ys corners) (office xs' ys' corners'))
-    {kept rim round least peels area kept' rim' round' least' peels' area' : List ℕ} {r r' : Listed} {k i g l p a k' i' g' l' p' a' : List ℕ} {c : ℕ}
+    {kept rim round least peels area kept' rim' round' least' peels' area' : List ℕ} {r r' : Result ℕ Refusal} {k i g l p a k' i' g' l' p' a' : List ℕ} {c : ℕ}
     → ListPromise xs ys corners kept rim round least peels area r k i g l p a → ListPromise xs' ys' corners' kept' rim' round' least' peels' area' r' k' i' g' l' p' a'
     → list_answer r ≡ count c → list_room (office xs' ys' corners') kept' rim' round' least' peels' area' ≡ true
     → (list_answer r' ≡ count c) × (take c l' ≡ take c l) × (take c p' ≡ take c p) × (take c a' ≡ take c a)

@@ -1,14 +1,13 @@
 -- Document 01, 'Peeling': what draw, outline and list answer, and what each lent list holds afterwards, for all inputs. Assumes nothing.
-use Rattle.std.specs.Prelude.{◌≡◌, ℕ, ◌-◌, Bool, cond, ◌&&◌, List, [], ◌++◌, map, leb, length, take, drop}
+use Rattle.std.specs.Prelude.{Result, Ok, Err, ◌≡◌, ℕ, ◌-◌, Bool, cond, ◌&&◌, List, [], ◌++◌, map, leb, length, take, drop}
 use Rattle.laws.specs.First.{table}
 use Rattle.sheet.specs.Office.{Office, office, points, triangles}
 use Rattle.rim.specs.Peel.{mark, on_rim, rims, ring, peeled, doubled}
 use Rattle.peel.specs.List.{Entry, entries}
 use Rattle.peel.specs.Outcome.{Outcome, draws, refuses, outcome}
-use Rattle.peel.specs.declared.Drawn.{Drawn}
-use Rattle.peel.specs.declared.Drawn.TheVariants.{Outline, Refused}
-use Rattle.peel.specs.declared.Listed.{Listed}
-use Rattle.peel.specs.declared.Listed.TheVariants.{Entries, Refused as Unlisted}
+use Rattle.rim.specs.declared.Tally.{Tally}
+use Rattle.sheet.specs.Refusal.{number}
+use Rattle.sheet.specs.declared.refusal.Refusal.{Refusal}
 
 -- triangles peeled, doubled area and ring length; or how many entries; or a refusal's number and place
 pub data Answer : Type 0 where
@@ -16,13 +15,13 @@ pub data Answer : Type 0 where
   count : ℕ → Answer
   refusal : ℕ → ℕ → Answer
 
-abbrev pub draw_answer : Drawn → Answer
-draw_answer (Outline t) = tally t.peeled t.area t.ring
-draw_answer (Refused r) = refusal r.number r.place
+abbrev pub draw_answer : Result Tally Refusal → Answer
+draw_answer (Ok t) = tally t.peeled t.area t.ring
+draw_answer (Err r) = refusal (number r.rule) r.place
 
-abbrev pub list_answer : Listed → Answer
-list_answer (Entries n) = count n
-list_answer (Unlisted r) = refusal r.number r.place
+abbrev pub list_answer : Result ℕ Refusal → Answer
+list_answer (Ok n) = count n
+list_answer (Err r) = refusal (number r.rule) r.place
 
 -- the answer and the lent lists after a draw
 pub record AfterDraw : Type 0 where
@@ -49,7 +48,7 @@ after_draw xs ys corners limit kept rim round =
     drawing (office xs ys corners) (outcome (draw_room (office xs ys corners) kept rim round) (office xs ys corners) limit) kept rim round
 
 -- the promise of draw: its answer and each lent list afterwards, by those before
-pub record DrawPromise (xs ys corners : List ℕ) (limit : ℕ) (kept rim round : List ℕ) (r : Drawn) (kept' rim' round' : List ℕ) : Type 0 where
+pub record DrawPromise (xs ys corners : List ℕ) (limit : ℕ) (kept rim round : List ℕ) (r : Result Tally Refusal) (kept' rim' round' : List ℕ) : Type 0 where
   pub answers : draw_answer r ≡ (after_draw xs ys corners limit kept rim round).answer
   pub kept_is : kept' ≡ (after_draw xs ys corners limit kept rim round).kept
   pub rim_is : rim' ≡ (after_draw xs ys corners limit kept rim round).rim
@@ -99,7 +98,7 @@ after_list xs ys corners kept rim round least peeled area =
     listing (office xs ys corners) (outcome (list_room (office xs ys corners) kept rim round least peeled area) (office xs ys corners) 0) kept rim round least peeled area
 
 -- the promise of list
-pub record ListPromise (xs ys corners kept rim round least peeled area : List ℕ) (r : Listed) (kept' rim' round' least' peeled' area' : List ℕ) : Type 0 where
+pub record ListPromise (xs ys corners kept rim round least peeled area : List ℕ) (r : Result ℕ Refusal) (kept' rim' round' least' peeled' area' : List ℕ) : Type 0 where
   pub answers : list_answer r ≡ (after_list xs ys corners kept rim round least peeled area).answer
   pub kept_is : kept' ≡ (after_list xs ys corners kept rim round least peeled area).kept
   pub rim_is : rim' ≡ (after_list xs ys corners kept rim round least peeled area).rim

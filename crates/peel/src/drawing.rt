@@ -1,78 +1,47 @@
 // The outline of an acceptable office at a limit.
 // For this crate: no public call, so a `requires` may stand.
-ghost use Rattle.std.specs.Prelude.{◌≡◌, ◌/◌, ◌≤◌, length, take};
-ghost use Rattle.laws.specs.First.{table};
-ghost use Rattle.sheet.specs.Office.{office, mate_of};
-ghost use Rattle.sheet.specs.Acceptable.{Acceptable};
+ghost use Rattle.std.specs.Prelude.{◌/◌, ◌≤◌, length};
 ghost use Rattle.rim.specs.Code.{State};
-ghost use Rattle.peel.specs.Code.{Drew, Outlined};
+ghost use Rattle.rim.specs.Plan.{plan};
 ghost use Rattle.rim.specs.Peel as peeling;
-ghost use Rattle.sheet.specs.Office as sheet;
+ghost use Rattle.peel.specs.Code.{Drew, Outlined};
 
 use rim::Tally;
 use rim::answers::Step;
-use rim::keys::Key;
-use rim::queue::gather;
-use rim::ring::lay_ring;
-use rim::start::begin;
+use rim::office::Accepted;
+use rim::queue::Queue;
 use rim::step::step;
 
 // Peels until nothing is removable above the limit.
-pub fn peel_all(
-    xs: &[u16],
-    ys: &[u16],
-    corners: &[u16],
-    mate: &[u16; 6129],
-    kept: &mut [u8],
-    rim: &mut [u8],
-    limit: u32,
-    begun: Tally,
-) -> Tally
-    requires { State (office xs.now ys.now corners.now) mate.now kept.old rim.old begun.peeled begun.area begun.ring }
-    ensures { Drew (office xs.now ys.now corners.now) limit mate.now kept.old rim.old begun.peeled kept.new rim.new result.peeled result.area result.ring }
+fn peel_all(office: &Accepted, kept: &mut [u8], rim: &mut [u8], limit: u32, begun: Tally) -> Tally
+    requires { State (plan office.now) office.now.mate.now kept.old rim.old begun.peeled begun.area begun.ring }
+    ensures { Drew (plan office.now) limit office.now.mate.now kept.old rim.old begun.peeled kept.new rim.new result.peeled result.area result.ring }
 {
-    let mut queue = [0u16; 1024];
-    let mut keys: [Key; 1024] = [0; 1024];
-    let mut waiting = gather(xs, ys, corners, mate, kept, &mut queue, &mut keys);
+    let mut queue = Queue::of_rim(office, kept);
     let mut tally = begun;
     loop {
-        let moved = step(
-            xs, ys, corners, mate, kept, rim, &mut queue, &mut keys, waiting, limit, tally,
-        );
-        let next = moved.tally;
+        let (answer, next) = step(office, kept, rim, &mut queue, limit, tally);
         tally = next;
-        waiting = moved.waiting;
-        let answer = moved.step;
         match answer {
-            Step::Nothing => {
-                return tally;
-            }
-            Step::Peeled {
-                triangle: _,
-                squared: _,
-            } => {}
+            Step::Nothing => return tally,
+            Step::Peeled { .. } => {}
         }
     }
 }
 
-// Draws the outline of an acceptable office whose rim has `hull` sides.
+// Draws the outline of an acceptable office.
 pub fn draw_accepted(
-    xs: &[u16],
-    ys: &[u16],
-    corners: &[u16],
-    mate: &[u16; 6129],
-    hull: usize,
+    office: &Accepted,
     limit: u32,
     kept: &mut [u8],
     rim: &mut [u8],
     ring: &mut [u16],
 ) -> Tally
-    requires acceptable { Acceptable (office xs.now ys.now corners.now) × (hull ≡ sheet.rims (office xs.now ys.now corners.now)) × (length corners.now / 3 ≤ length kept.old) × (length xs.now ≤ length rim.old) × (length xs.now ≤ length ring.old) }
-    requires mate_value { take (length corners.now) mate.now ≡ table (mate_of corners.now) (length corners.now) }
-    ensures { Outlined (office xs.now ys.now corners.now) (peeling.drawn (office xs.now ys.now corners.now) limit) kept.old rim.old ring.old kept.new rim.new ring.new result.peeled result.area result.ring }
+    requires { (length office.now.corners.now / 3 ≤ length kept.old) × (length office.now.xs.now ≤ length rim.old) × (length office.now.xs.now ≤ length ring.old) }
+    ensures { Outlined (plan office.now) (peeling.drawn (plan office.now) limit) kept.old rim.old ring.old kept.new rim.new ring.new result.peeled result.area result.ring }
 {
-    let begun = begin(xs, ys, corners, mate, hull, kept, rim);
-    let tally = peel_all(xs, ys, corners, mate, kept, rim, limit, begun);
-    lay_ring(xs, ys, corners, mate, kept, rim, tally, ring);
+    let begun = office.begin(kept, rim);
+    let tally = peel_all(office, kept, rim, limit, begun);
+    office.lay_ring(kept, rim, tally, ring);
     tally
 }

@@ -11,22 +11,9 @@ ghost use Rattle.peel.specs.Answer.{used, DrawPromise, ListPromise};
 use drawing::draw_accepted;
 use listing::list_accepted;
 pub use rim::Tally;
+use rim::office::Accepted;
 use room::{draw_room, list_room};
-use sheet::{Checked, Refusal, check_mates};
-
-// What a draw answers.
-#[derive(Clone, Copy)]
-pub enum Drawn {
-    Outline(Tally),
-    Refused(Refusal),
-}
-
-// What a list answers: how many entries there are, or a refusal.
-#[derive(Clone, Copy)]
-pub enum Listed {
-    Entries(usize),
-    Refused(Refusal),
-}
+use sheet::Refusal;
 
 // Draws the outline at a limit: peels while a removable side is strictly longer. Afterwards a triangle's mark is 1 where it is kept, a point's
 // is 1 where it is on the rim, else 0, and the ring stands in front. Later places stay as they were; a refusal writes nothing.
@@ -38,32 +25,24 @@ pub fn draw(
     kept: &mut [u8],
     rim: &mut [u8],
     ring: &mut [u16],
-) -> Drawn
+) -> Result<Tally, Refusal>
     ensures { DrawPromise xs.now ys.now corners.now limit kept.old rim.old ring.old result kept.new rim.new ring.new }
 {
     let room = draw_room(xs.len(), corners.len(), kept.len(), rim.len(), ring.len());
     let mut mate = [0u16; 6129];
-    let checked = check_mates(xs, ys, corners, room, &mut mate);
-    match checked {
-        Checked::Refused(refusal) => {
-            return Drawn::Refused(refusal);
-        }
-        Checked::Accepted(hull) => {
-            let tally = draw_accepted(xs, ys, corners, &mate, hull, limit, kept, rim, ring);
-            return Drawn::Outline(tally);
-        }
-    }
+    let office = Accepted::check(xs, ys, corners, room, &mut mate)?;
+    Ok(draw_accepted(&office, limit, kept, rim, ring))
 }
 
 // The used part of a lent ring buffer; the empty part where the tally claims more than the buffer holds.
 pub fn outline<'a>(ring: &'a [u16], tally: Tally) -> &'a [u16]
     ensures { result.now ≡ used ring.now tally.ring }
 {
-    let n = tally.ring;
-    if n <= ring.len() {
-        return &ring[..n];
+    if tally.ring <= ring.len() {
+        &ring[..tally.ring]
+    } else {
+        &ring[..0]
     }
-    &ring[..0]
 }
 
 // Lists every outline that a limit gives, once, with the least limit that gives it, from the hull on. Marks and ring end as a draw at limit 0
@@ -78,7 +57,7 @@ pub fn list(
     least: &mut [u32],
     peeled: &mut [u32],
     area: &mut [u32],
-) -> Listed
+) -> Result<usize, Refusal>
     ensures { ListPromise xs.now ys.now corners.now kept.old rim.old ring.old least.old peeled.old area.old result kept.new rim.new ring.new least.new peeled.new area.new }
 {
     let room = list_room(
@@ -92,16 +71,6 @@ pub fn list(
         area.len(),
     );
     let mut mate = [0u16; 6129];
-    let checked = check_mates(xs, ys, corners, room, &mut mate);
-    match checked {
-        Checked::Refused(refusal) => {
-            return Listed::Refused(refusal);
-        }
-        Checked::Accepted(hull) => {
-            let count = list_accepted(
-                xs, ys, corners, &mate, hull, kept, rim, ring, least, peeled, area,
-            );
-            return Listed::Entries(count);
-        }
-    }
+    let office = Accepted::check(xs, ys, corners, room, &mut mate)?;
+    Ok(list_accepted(&office, kept, rim, ring, least, peeled, area))
 }

@@ -9,7 +9,7 @@ use lib.Dec.{eqb}
 use lib.ListN.{get_or}
 use Rattle.laws.proofs.Test.{eqb_iff}
 use Rattle.sheet.specs.Office.{Office, apex}
-use Rattle.rim.specs.Heap.{Heap, Pushed, Sunk, Joined, tally}
+use Rattle.rim.specs.Heap.{Pushed, Sunk, Joined, tally}
 use Rattle.rim.proofs.Bag.{tally_first, bit_same, bit_split, bit_apart}
 
 -- a stuck side's third corner is marked
@@ -28,16 +28,6 @@ module _ {o : Office} {old queue keys : List ℕ} {n t : ℕ} (l : 0 < n) (h : S
   sunk_only x w = elim (bit_split t x) [ inl z ↦ inr z | inr z ↦ inl (let u = h.bag x in omega arith) ]
 
 module _ {o : Office} {marks old : List ℕ} {n s r : ℕ} (l : 0 < n) where
-  pub none_joins : {keys : List ℕ} → Heap o old keys n → get_or marks (apex o s) 0 ≡ 1 → get_or marks (apex o r) 0 ≡ 1 → Joined o marks old old keys n n s r
-  none_joins h a b = record {
-    heap = h;
-    few = omega arith;
-    stays = λ x w f. w;
-    one_waits = λ f. absurd (f a);
-    two_waits = λ f. absurd (f b);
-    only = λ x w. inl w;
-  }
-
   pub one_joins : {queue keys : List ℕ} → Sunk o old queue keys n s → get_or marks (apex o r) 0 ≡ 1 → Joined o marks old queue keys n n s r
   one_joins {queue} h b = record {
     heap = h.heap;

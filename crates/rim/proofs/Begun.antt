@@ -9,9 +9,9 @@ use native.Mathlib.Omega.{arith}
 use lib.Dec.{eqb}
 use lib.IntN.{nat_abs}
 use lib.ListN.{length, get_or, set, take, drop, replicate, length-set, length-replicate, get_or-replicate, length-append, length-drop, get_or-append}
-use lib.Seq.{take_at, drop_at, get_or-set_same, get_or-set_other, drop-set-lt}
+use lib.Seq.{length-take-le, take_at, drop_at, get_or-set_same, get_or-set_other, drop-set-lt}
 use borrow.Author.Tests.{eq-eqb, ne_eqb}
-use Rattle.laws.specs.First.{first, any, sum, table}
+use Rattle.laws.specs.First.{any, sum, table}
 use Rattle.laws.proofs.Test.{and_iff, or_iff, false_iff}
 use Rattle.laws.proofs.More.{any_more, sum_last, sum_below}
 use Rattle.sheet.specs.Office.{Office, triangles, tail, head, area, next, rims as hull_sides, office, bare, mate_of}
@@ -55,6 +55,10 @@ pub record Marking (corners k : List ℕ) (n : ℕ) (before marks : List ℕ) (s
   pub rest : drop n marks ≡ drop n before
   pub long : length marks ≡ length before
 
+-- the front written, and the rest as it was
+pub filled_is : (n v : ℕ) (entry part : List ℕ) → n ≤ length entry → part ≡ replicate (length (take n entry)) v → part ++ drop n entry ≡ replicate n v ++ drop n entry
+filled_is n v entry part l e = ap (λ f. f ++ drop n entry) (e ∙ ap (λ m. replicate m v) (length-take-le n entry l))
+
 pub filled_long : (n v : ℕ) (entry marks : List ℕ) → n ≤ length entry → marks ≡ replicate n v ++ drop n entry → length marks ≡ length entry
 filled_long n v entry marks l e = ap length e ∙ simp (length-append, length-replicate, length-drop) (omega arith)
 
@@ -66,16 +70,6 @@ filled_front n v entry marks e = ap (take n) e ∙ take_at (replicate n v) (drop
 
 filled_at : (n v : ℕ) (entry marks : List ℕ) → marks ≡ replicate n v ++ drop n entry → (p : ℕ) → p < n → get_or marks p 0 ≡ v
 filled_at n v entry marks e p b = ap (λ m. get_or m p 0) e ∙ get_or-append (replicate n v) (drop n entry) 0 p (rw (length-replicate n v) b) ∙ get_or-replicate n p v 0 b
-
-pub marks_none : (corners k : List ℕ) (n : ℕ) (entry marks : List ℕ) → n ≤ length entry → marks ≡ replicate n 0 ++ drop n entry → Marking corners k n marks marks 0
-unfolding first
-marks_none corners k n entry marks l e = record {
-  within = omega arith;
-  room = (let z = filled_long n 0 entry marks l e in omega arith);
-  so_far = filled_at n 0 entry marks e;
-  rest = refl;
-  long = refl;
-}
 
 module _ (corners k : List ℕ) (n : ℕ) (before marks : List ℕ) (s : ℕ) (whole : length corners % 3 ≡ 0) (numbered : Numbered corners n) (h : Marking corners k n before marks s) (l : s < length corners) where
   abbrev t : ℕ

@@ -1,15 +1,12 @@
 -- The corners of an acceptable office are indices of its points. Assumes nothing.
 use mathlib.Core.Path.{◌≡◌}
 use mathlib.Core.List.{List}
-use Prim.Native.Nat.{ℕ, ◌+◌, ◌*◌, ◌/◌, ◌<◌}
+use Prim.Native.Nat.{ℕ, ◌+◌, ◌*◌, ◌<◌}
 use native.Mathlib.Omega.{arith}
 use lib.ListN.{length, get_or}
-use lib.IntN.{nat_abs}
 use Rattle.sheet.specs.Acceptable.{Acceptable}
-use Rattle.sheet.specs.Plane.{Small, spot, turn, squared}
-use Rattle.sheet.specs.Office.{office, next, area}
-use Rattle.sheet.proofs.Side.{next_below}
-use Rattle.rim.specs.Peel.{long}
+use Rattle.sheet.specs.Plane.{Small, spot, turn}
+use Rattle.sheet.specs.Office.{office, area}
 
 module _ {xs ys corners : List ℕ} (a : Acceptable (office xs ys corners)) where
   module _ (s : ℕ) (l : s < length corners) where
@@ -23,22 +20,8 @@ module _ {xs ys corners : List ℕ} (a : Acceptable (office xs ys corners)) wher
     pub small_there : {x y : ℕ} → x ≡ get_or xs (get_or corners s 0) 0 → y ≡ get_or ys (get_or corners s 0) 0 → Small (spot x y)
     small_there u v = omega (arith, a.small (get_or corners s 0) (a.numbered s l))
 
-  pub end_there : (s : ℕ) → s < length corners → next s < length corners
-  end_there s l = next_below (length corners) s a.corners_bound.1 l
-
-  pub first_there : (t : ℕ) → t < length corners / 3 → t * 3 < length corners
-  first_there t b = omega arith
-
-  pub corner_there : (t : ℕ) → t < length corners / 3 → (i : ℕ) → i < 3 → t * 3 + i < length corners
-  corner_there t b i l = omega (arith, a.corners_bound.1)
-
--- the squared length and the area are those of the coordinates read
+-- the area is that of the coordinates read
 module _ (xs ys corners : List ℕ) where
-  pub long_read : (s : ℕ) {r ax ay bx by : ℕ}
-      → ax ≡ get_or xs (get_or corners s 0) 0 → ay ≡ get_or ys (get_or corners s 0) 0 → bx ≡ get_or xs (get_or corners (next s) 0) 0 → by ≡ get_or ys (get_or corners (next s) 0) 0
-      → r ≡ nat_abs (squared (spot ax ay) (spot bx by)) → r ≡ long (office xs ys corners) s
-  long_read s ax ay bx by e = cc
-
   pub area_read : (t : ℕ) {ax ay bx by cx cy : ℕ}
       → ax ≡ get_or xs (get_or corners (t * 3) 0) 0 → ay ≡ get_or ys (get_or corners (t * 3) 0) 0
       → bx ≡ get_or xs (get_or corners (t * 3 + 1) 0) 0 → by ≡ get_or ys (get_or corners (t * 3 + 1) 0) 0

@@ -12,8 +12,8 @@ use Rattle.rim.specs.Peel.{mark, on_rim, peel, rims}
 use Rattle.rim.specs.Reached.{Reached, more}
 use Rattle.rim.specs.Code.{front, Held, State}
 use Rattle.rim.specs.Heap.{Queued, Next, Joined}
-use Rattle.rim.specs.declared.answers.Best.{Best}
-use Rattle.rim.specs.declared.answers.Best.TheVariants.{Side}
+use Rattle.std.specs.Prelude.{Option as Maybe, Some}
+use Rattle.rim.specs.declared.answers.Side.{Side}
 use Rattle.rim.proofs.Mated.{is_mate}
 use Rattle.rim.proofs.OnePeel.{Peelable, outward, inward}
 use Rattle.rim.proofs.Reached.{sound}
@@ -32,8 +32,11 @@ all_fit h = rims_low h.held.acceptable h.reached
 mate_is : {o : Office} {mate kept rim : List ℕ} → Held o mate kept rim → (r b : ℕ) → r < sides o → b < sides o → Reverse o r b → get_or mate r 0 ≡ b
 mate_is {o} {mate} h r b l m v = table_at (mate_of o.corners) (sides o) mate r h.mates l ∙ sym (is_mate o h.acceptable.single mate r b m v).1
 
-module _ {o : Office} {mate kept rim : List ℕ} {peeled area ring : ℕ} (h : State o mate kept rim peeled area ring) {queue keys : List ℕ} {n : ℕ} {found : Best}
-    (g : Next o (front o.corners kept) queue keys n found) {s far : ℕ} (f : found ≡ Side s far) where
+module _ {o : Office} {mate kept rim : List ℕ} {peeled area ring : ℕ} (h : State o mate kept rim peeled area ring) {queue keys : List ℕ} {n : ℕ} {found : Maybe Side}
+    (g : Next o (front o.corners kept) queue keys n found) {side : Side} (f : found ≡ Some side) where
+  abbrev s : ℕ
+  s = side.place
+
   abbrev k : List ℕ
   k = front o.corners kept
 
@@ -41,10 +44,10 @@ module _ {o : Office} {mate kept rim : List ℕ} {peeled area ring : ℕ} (h : S
   a = h.held.acceptable
 
   may : Peelable o k s
-  may = can o 0 mate kept rim peeled area ring h s far g.is_best f
+  may = can o 0 mate kept rim peeled area ring h side g.is_best f
 
   pub some_wait : 0 < n
-  some_wait = (g.is_first s far f).0
+  some_wait = (g.is_first side f).0
 
   grows : rims o (peel k s) ≡ suc (rims o k)
   grows = rims_after a h.reached s may.below may.may
@@ -67,5 +70,5 @@ module _ {o : Office} {mate kept rim : List ℕ} {peeled area ring : ℕ} (h : S
   pub queued_after : {queue' keys' : List ℕ} {m : ℕ} → Joined o (set rim (apex o s) 1) queue queue' keys' n m (get_or mate (next s) 0) (get_or mate (last s) 0)
       → Queued o (front o.corners (set kept (s / 3) 0)) queue' keys' m
   queued_after {queue'} {keys'} {m} j =
-      let e = front_is o 0 mate kept rim peeled area ring h s far g.is_best f in
-      subst (λ t. Queued o t queue' keys' m) (sym e) (joins a g.queued some_wait (g.is_first s far f).1 may out_is in_is (λ p l. on o 0 mate kept rim peeled area ring h s far g.is_best f p l ∙ ap (λ t. mark (on_rim o t p)) e) j grows)
+      let e = front_is o 0 mate kept rim peeled area ring h side g.is_best f in
+      subst (λ t. Queued o t queue' keys' m) (sym e) (joins a g.queued some_wait (g.is_first side f).1 may out_is in_is (λ p l. on o 0 mate kept rim peeled area ring h side g.is_best f p l ∙ ap (λ t. mark (on_rim o t p)) e) j grows)

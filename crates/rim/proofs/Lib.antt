@@ -11,6 +11,9 @@ pub mod Greatest
 -- the side to peel next
 pub mod TopSide
 -- what the functions' proofs cite
+pub mod Plain
+pub mod Handed
+pub mod Lowest
 pub mod Mated
 pub mod Cornered
 -- the queue

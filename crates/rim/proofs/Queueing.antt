@@ -6,14 +6,14 @@ use mathlib.Core.List.{List}
 use mathlib.Core.Option.{none, some}
 use Prim.Native.Nat.{ℕ, suc, ◌-◌, ◌/◌, ◌<◌, ◌≤◌}
 use native.Mathlib.Omega.{arith}
-use lib.ListN.{length, get_or}
+use lib.ListN.{get_or}
 use Rattle.laws.proofs.Test.{false_iff, neither_iff, eqb_iff}
 use Rattle.sheet.specs.Office.{Office, points, sides, apex, last}
 use Rattle.sheet.proofs.Side.{last_below}
 use Rattle.sheet.specs.Acceptable.{Acceptable}
 use Rattle.rim.specs.Peel.{mark, rim, on_rim, removable, long, best, peel, rims}
 use Rattle.rim.specs.Code.{front, Held, told}
-use Rattle.rim.specs.declared.answers.Best.TheVariants.{Side, Nothing}
+use Rattle.std.specs.Prelude.{Some, None}
 use Rattle.rim.specs.Heap.{Heap, Queued, Next, Popped, Joined, rank, bit, tally}
 use Rattle.rim.proofs.Marks.{rim_iff, on_rim_iff, removable_iff}
 use Rattle.rim.proofs.OnePeel.{Peelable, OldOrBared, outward, inward, rim_after}
@@ -111,8 +111,8 @@ module _ {o : Office} {mate kept marks queue keys : List ℕ} {n : ℕ} (h : Hel
   abbrev k : List ℕ
   k = front o.corners kept
 
-  pub nothing_waits : n ≤ 0 → Next o k queue keys n Nothing
-  nothing_waits l = record { queued = q; is_best = sym (ap (told o) (none_waits h.acceptable q l)); is_first = λ s p e. absurd (let z : ◌≡◌ {A = ℕ} 0 1 = cc in omega arith) }
+  pub nothing_waits : n ≤ 0 → Next o k queue keys n None
+  nothing_waits l = record { queued = q; is_best = sym (ap (told o) (none_waits h.acceptable q l)); is_first = λ s e. absurd (let z : ◌≡◌ {A = ℕ} 0 1 = cc in omega arith) }
 
   module _ (l : 0 < n) {s : ℕ} (is : s ≡ get_or queue 0 0) where
     pub side_there : s < sides o
@@ -125,9 +125,6 @@ module _ {o : Office} {mate kept marks queue keys : List ℕ} {n : ℕ} (h : Hel
     apex_point = h.acceptable.numbered (last s) third_there
 
     module _ {p : ℕ} (at : p ≡ apex o s) where
-      pub mark_there : p < length marks
-      mark_there = let u = apex_point in let w = h.places in let z = at in omega arith
-
       marked : get_or marks p 0 ≡ mark (on_rim o k (apex o s))
       marked = ap (λ i. get_or marks i 0) at ∙ h.on (apex o s) apex_point
 
@@ -137,15 +134,15 @@ module _ {o : Office} {mate kept marks queue keys : List ℕ} {n : ℕ} (h : Hel
       first_is : (b : Bool) → on_rim o k (apex o s) ≡ b → on_rim o k (apex o (get_or queue 0 0)) ≡ b
       first_is b e = sym (ap (λ r. on_rim o k (apex o r)) is) ∙ e
 
-      pub found : (get_or marks p 0 ≡ 1 → ⊥) → {far : ℕ} → far ≡ get_or keys 0 0 / 268435456 → Next o k queue keys n (Side s far)
+      pub found : (get_or marks p 0 ≡ 1 → ⊥) → {far : ℕ} → far ≡ get_or keys 0 0 / 268435456 → Next o k queue keys n (Some (record { place = s; squared = far }))
       found f {far} z = step (on_rim o k (apex o s)) refl
         where
-          step : (b : Bool) → on_rim o k (apex o s) ≡ b → Next o k queue keys n (Side s far)
+          step : (b : Bool) → on_rim o k (apex o s) ≡ b → Next o k queue keys n (Some (record { place = s; squared = far }))
           step true e = absurd (f (mark_told true e))
           step false e = record {
             queued = q;
-            is_best = ap (Side s) (z ∙ ap (λ n. n / 268435456) (q.heap.measured 0 l) ∙ key_long o _ ∙ ap (long o) (sym is)) ∙ sym (ap (told o) (first_best h.acceptable q l (first_is false e) ∙ ap some (sym is)));
-            is_first = λ r p e. (l, (let z : s ≡ r = cc in sym z ∙ is));
+            is_best = ap (λ q. Some (record { place = s; squared = q })) (z ∙ ap (λ n. n / 268435456) (q.heap.measured 0 l) ∙ key_long o _ ∙ ap (long o) (sym is)) ∙ sym (ap (told o) (first_best h.acceptable q l (first_is false e) ∙ ap some (sym is)));
+            is_first = λ r e. (l, (let z : s ≡ r.place = cc in sym z ∙ is));
           }
 
       pub drops_first : get_or marks p 0 ≡ 1 → {queue' keys' : List ℕ} → Popped o queue queue' keys' n → Queued o k queue' keys' (n - 1)

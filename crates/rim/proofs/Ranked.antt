@@ -2,10 +2,11 @@
 use mathlib.Core.Path.{◌≡◌, sym, ap, ap₂, subst, ◌∙◌}
 use mathlib.Core.Logic.{◌↔◌, inl, inr}
 use mathlib.Core.Bool.{Bool, true, false, cond}
-use Prim.Native.Nat.{ℕ, ◌+◌, ◌*◌, ◌-◌, ◌/◌, ◌<◌, ◌≤◌}
+use Prim.Native.Nat.{ℕ, min, max, ◌+◌, ◌*◌, ◌-◌, ◌/◌, ◌<◌, ◌≤◌}
 use native.Mathlib.Decide.{dec_lt}
 use native.Mathlib.Omega.{arith}
 use lib.Dec.{ltb}
+use borrow.Author.Tests.{lt-ltb, le-ltb}
 use Rattle.laws.proofs.Test.{false_iff, same_answer, ltb_iff}
 use Rattle.laws.proofs.Order.{Lex, lex_iff}
 use Rattle.sheet.specs.Plane.{Point, Small}
@@ -104,6 +105,13 @@ sooner_packed a b sa sb = same_answer (λ e. ltb_iff.1 (into ((lex_iff ltb_iff).
     out : packed a < packed b → Lex a.x b.x (a.y < b.y)
     out l = elim (dec_lt a.x b.x) [ yes m ↦ inl m | no f ↦ (let u = sa.1 in let w = sb.1 in inr (omega arith, omega arith)) ]
 
+-- the lesser and the greater of two numbers, by a test
+min_is : (p q : ℕ) → min p q ≡ cond (ltb q p) q p
+min_is p q = elim (dec_lt q p) [ yes l ↦ (omega arith ∙ sym (ap (λ b. cond b q p) (lt-ltb q p l))) | no f ↦ (omega arith ∙ sym (ap (λ b. cond b q p) (le-ltb q p (omega (arith, f))))) ]
+
+max_is : (p q : ℕ) → max p q ≡ cond (ltb q p) p q
+max_is p q = elim (dec_lt q p) [ yes l ↦ (omega arith ∙ sym (ap (λ b. cond b p q) (lt-ltb q p l))) | no f ↦ (omega arith ∙ sym (ap (λ b. cond b p q) (le-ltb q p (omega (arith, f))))) ]
+
 pub key_is : (o : Office) (s : ℕ) {l f : ℕ} → l ≡ long o s → f ≡ packed (point o (first_end o s)) → l * 268435456 + (268435455 - f) ≡ key o s
 unfolding key
 key_is o s = ap₂ (λ l f. l * 268435456 + (268435455 - f))
@@ -148,17 +156,17 @@ module _ {o : Office} (a : Acceptable o) where
     unfolding turned
     is_turned = let (t, h) = ends s false l in sooner_packed (point o (head o s)) (point o (tail o s)) h t ∙ ap (λ n. ltb n (packed (point o (tail o s)))) (sym y) ∙ ap (ltb q) (sym x)
 
-    pub first_packed : {n : ℕ} → n ≡ cond (ltb q p) q p → n ≡ packed (point o (first_end o s))
+    pub first_packed : {n : ℕ} → n ≡ min p q → n ≡ packed (point o (first_end o s))
     unfolding turned
-    first_packed e = e ∙ step (ltb q p) ∙ ap (λ b. packed (point o (cond b (head o s) (tail o s)))) (sym is_turned)
+    first_packed e = e ∙ min_is p q ∙ step (ltb q p) ∙ ap (λ b. packed (point o (cond b (head o s) (tail o s)))) (sym is_turned)
       where
         step : (b : Bool) → cond b q p ≡ packed (point o (cond b (head o s) (tail o s)))
         step true = y
         step false = x
 
-    pub second_packed : {n : ℕ} → n ≡ cond (ltb q p) p q → n ≡ packed (point o (second_end o s))
+    pub second_packed : {n : ℕ} → n ≡ max p q → n ≡ packed (point o (second_end o s))
     unfolding turned
-    second_packed e = e ∙ step (ltb q p) ∙ ap (λ b. packed (point o (cond b (tail o s) (head o s)))) (sym is_turned)
+    second_packed e = e ∙ max_is p q ∙ step (ltb q p) ∙ ap (λ b. packed (point o (cond b (tail o s) (head o s)))) (sym is_turned)
       where
         step : (b : Bool) → cond b p q ≡ packed (point o (cond b (tail o s) (head o s)))
         step true = x

@@ -8,7 +8,8 @@ use native.Mathlib.Decide.{ℕ_discrete}
 use native.Mathlib.Omega.{arith}
 use lib.Dec.{eqb}
 use lib.ListN.{length, get_or, set, drop, length-set}
-use lib.Seq.{sets, sets-eq, get_or-set_same, get_or-set_other}
+use Rattle.std.proofs.lemmas.List.{append-nil}
+use lib.Seq.{sets, sets-eq, drop-length, get_or-set_same, get_or-set_other}
 use Rattle.laws.specs.First.{first, walk}
 use Rattle.laws.proofs.Search.{first_is}
 use Rattle.laws.proofs.Order.{level}
@@ -19,7 +20,6 @@ use Rattle.laws.proofs.Walk.{length-walk}
 use Rattle.sheet.specs.Office.{Office, sides, tail, head, rims as hull_sides, office, bare}
 use Rattle.rim.specs.Peel.{mark, rim, on_rim, after, rims, ring}
 use Rattle.rim.specs.Code.{front, State, Leaves, Ringlike, Linked}
-use Rattle.sheet.specs.Code.{Numbered}
 use Rattle.rim.proofs.Marks.{Way, OnRim, rim_iff, on_rim_iff}
 use Rattle.rim.proofs.Mated.{rim_bare}
 use Rattle.rim.proofs.Reached.{sound}
@@ -67,18 +67,12 @@ module _ (corners k : List ℕ) where
     unfolding test
     leaves_on q e = subst (Leaves corners k) (sym (e ∙ link_is)) (g.follows (first test (length corners)) side.0 parts.1)
 
-pub leaves_below : (corners k : List ℕ) (p : ℕ) {n : ℕ} → Numbered corners n → Leaves corners k p → p < n
-leaves_below corners k p {n = n} f (s, l, _, e) = subst (λ q. q < n) e (f s l)
-
 -- a walk of count points from `from`, of which i are written, has come to p
 pub record Walking (f : ℕ → ℕ) (from count : ℕ) (round₀ round : List ℕ) (p i : ℕ) : Type 0 where
   pub within : i ≤ count
   pub room : count ≤ length round
   pub long : length round ≡ length round₀
   pub left : sets round i (walk f p (count - i)) ≡ sets round₀ 0 (walk f from count)
-
-pub walks : (f : ℕ → ℕ) (from count : ℕ) (round : List ℕ) → count ≤ length round → Walking f from count round round from 0
-walks f from count round l = record { within = omega arith; room = l; long = refl; left = ap (λ n. sets round 0 (walk f from n)) (omega arith) }
 
 pub walks_on : (f : ℕ → ℕ) (from count : ℕ) (round₀ round : List ℕ) (p q i : ℕ) → Walking f from count round₀ round p i → i < count → q ≡ f p → Walking f from count round₀ (set round i p) q (i + 1)
 unfolding walk
@@ -163,14 +157,18 @@ module _ (xs ys corners mate kept marks : List ℕ) (peeled area count : ℕ) (h
   unfolding rim
   along p n = refl
 
-  pub ring_written : (round round' : List ℕ) (low : ℕ) → length xs ≤ length round → low ≡ first (λ p. eqb (get_or marks p 0) 1) (length xs)
-      → round' ≡ sets round 0 (walk (after (bare corners) k) low count) → round' ≡ ring o k ++ drop count round
+  -- the part of a ring buffer that is written
+  pub ring_written : (part part' : List ℕ) (low : ℕ) → length part ≡ count → low ≡ first (λ p. eqb (get_or marks p 0) 1) (length xs)
+      → part' ≡ sets part 0 (walk (after (bare corners) k) low (length part)) → part' ≡ ring o k
   unfolding ring
-  ring_written round round' low l e w =
+  ring_written part part' low l e w =
       w
-      ∙ ap (sets round 0) (along low count ∙ ap₂ (walk (after o k)) (e ∙ lowest) h.rings)
-      ∙ sets-eq (walk (after o k) (first (on_rim o k) (length xs)) (rims o k)) round 0 (let u = length_is in let v = count_fits in let z = h.rings in omega arith)
-      ∙ ap (λ n. ring o k ++ drop n round) as_long
+      ∙ ap (λ n. sets part 0 (walk (after (bare corners) k) low n)) l
+      ∙ ap (sets part 0) (along low count ∙ ap₂ (walk (after o k)) (e ∙ lowest) h.rings)
+      ∙ sets-eq (walk (after o k) (first (on_rim o k) (length xs)) (rims o k)) part 0 (let u = length_is in let z = h.rings in omega arith)
+      ∙ ap (λ n. ring o k ++ drop n part) (as_long ∙ sym l)
+      ∙ ap (λ d. ring o k ++ d) (drop-length part)
+      ∙ append-nil (ring o k)
     where
       length_is : length (walk (after o k) (first (on_rim o k) (length xs)) (rims o k)) ≡ rims o k
       length_is = length-walk (after o k) (first (on_rim o k) (length xs)) (rims o k)

@@ -28,9 +28,6 @@ module _ {o : Office} {queue : List ℕ} {m c : ℕ} where
     ];
   }
 
-  pub leads_alone : c < m → m ≤ c + 1 → Leading o queue m c c
-  leads_alone l b = leads c (omega arith) l (omega arith) (omega arith) (λ h. absurd (omega arith))
-
   pub leads_first : c + 1 < m → rank_at o queue (c + 1) ≤ rank_at o queue c → Leading o queue m c c
   leads_first l b = leads c (omega arith) (omega arith) (omega arith) (omega arith) (λ h. b)
 
@@ -59,18 +56,6 @@ pub record Sinking (o : Office) (old queue keys : List ℕ) (m s i c : ℕ) : Ty
   pub now : Heap o queue keys m
   pub over : 0 < i → rank o s ≤ rank_at o queue (above i)
   pub bag : (x : ℕ) → tally x queue m + bit (get_or old 0 0) x ≡ tally x old m + bit (get_or queue i 0) x
-
-pub sink_begins : {o : Office} {old keys : List ℕ} {m s : ℕ} → 0 < m → m ≤ 1024 → s < sides o → Heap o old keys m → Sinking o old old keys m s 0 1
-sink_begins l b k h = record {
-  size = h.size;
-  room = b;
-  place = l;
-  child = omega arith;
-  is_side = k;
-  now = h;
-  over = λ z. absurd (omega arith);
-  bag = λ x. refl;
-}
 
 module _ {o : Office} {old queue keys : List ℕ} {m s i c : ℕ} (r : Sinking o old queue keys m s i c) where
   inside : i < length queue

@@ -16,8 +16,8 @@ use Rattle.sheet.proofs.Side.{last_below}
 use Rattle.rim.specs.Peel.{mark, on_rim, long, best, peel, turned, rims, doubled}
 use Rattle.rim.specs.Reached.{Reached, more}
 use Rattle.rim.specs.Code.{front, State, Stepped, told, answered}
-use Rattle.rim.specs.declared.answers.Best.{Best}
-use Rattle.rim.specs.declared.answers.Best.TheVariants.{Side, Nothing}
+use Rattle.std.specs.Prelude.{Option as Maybe, Some, None}
+use Rattle.rim.specs.declared.answers.Side.{Side}
 use Rattle.rim.specs.declared.answers.Step.TheVariants.{Peeled, Nothing as Stays}
 use Rattle.rim.proofs.OnePeel.{Peelable}
 use Rattle.rim.proofs.RimPoints.{on_rim_after}
@@ -27,13 +27,13 @@ use Rattle.rim.proofs.Rings.{rims_are, rims_after, ring_fits, some_kept}
 use Rattle.rim.proofs.TopSide.{Top, best_iff}
 
 -- what the code found is the best side
-none_told : (o : Office) (x : Option ℕ) → Nothing ≡ told o x → x ≡ none
+none_told : (o : Office) (x : Option ℕ) → None ≡ told o x → x ≡ none
 none_told o none e = refl
 none_told o (some s) e = absurd (let z : ◌≡◌ {A = ℕ} 0 1 = cc in omega arith)
 
-some_told : (o : Office) (x : Option ℕ) (s q : ℕ) → Side s q ≡ told o x → (x ≡ some s) × (q ≡ long o s)
-some_told o none s q e = absurd (let z : ◌≡◌ {A = ℕ} 0 1 = cc in omega arith)
-some_told o (some r) s q e = let z : s ≡ r = cc in (ap some (sym z), (let w : q ≡ long o r = cc in w ∙ ap (long o) (sym z)))
+some_told : (o : Office) (x : Option ℕ) (s : Side) → Some s ≡ told o x → (x ≡ some s.place) × (s.squared ≡ long o s.place)
+some_told o none s e = absurd (let z : ◌≡◌ {A = ℕ} 0 1 = cc in omega arith)
+some_told o (some r) s e = let z : s.place ≡ r = cc in (ap some (sym z), (let w : s.squared ≡ long o r = cc in w ∙ ap (long o) (sym z)))
 
 module _ (o : Office) (limit : ℕ) (mate kept rim : List ℕ) (peeled area ring : ℕ) (h : State o mate kept rim peeled area ring) where
   abbrev k : List ℕ
@@ -52,16 +52,22 @@ module _ (o : Office) (limit : ℕ) (mate kept rim : List ℕ) (peeled area ring
     rim_long = refl;
   }
 
-  pub nothing_left : {found : Best} → found ≡ told o (best o k) → found ≡ Nothing → Stepped o limit mate kept rim kept rim peeled Stays peeled area ring
+  pub nothing_left : {found : Maybe Side} → found ≡ told o (best o k) → found ≡ None → Stepped o limit mate kept rim kept rim peeled Stays peeled area ring
   unfolding turned
   nothing_left e f = stays none (none_told o (best o k) (sym f ∙ e)) refl refl
 
-  module _ {found : Best} (s q : ℕ) (e : found ≡ told o (best o k)) (f : found ≡ Side s q) where
+  module _ {found : Maybe Side} (side : Side) (e : found ≡ told o (best o k)) (f : found ≡ Some side) where
+    abbrev s : ℕ
+    s = side.place
+
+    abbrev q : ℕ
+    q = side.squared
+
     best_is : best o k ≡ some s
-    best_is = (some_told o (best o k) s q (sym f ∙ e)).0
+    best_is = (some_told o (best o k) side (sym f ∙ e)).0
 
     long_is : q ≡ long o s
-    long_is = (some_told o (best o k) s q (sym f ∙ e)).1
+    long_is = (some_told o (best o k) side (sym f ∙ e)).1
 
     pub nothing_above : q ≤ limit → Stepped o limit mate kept rim kept rim peeled Stays peeled area ring
     unfolding turned

@@ -1,15 +1,14 @@
 -- What the code's values stand for. Assumes nothing.
-use Rattle.std.specs.Prelude.{ℕ, ◌+◌, ◌/◌, ◌<◌, ◌≤◌, Bool, true, cond, List, ◌≡◌, ltb, length, get_or, set, take, drop}
+use Rattle.std.specs.Prelude.{Option as Maybe, Some, None, ℕ, ◌+◌, ◌/◌, ◌<◌, ◌≤◌, Bool, true, cond, List, ◌≡◌, ltb, length, get_or, set, take, drop}
 use Rattle.std.proofs.Math.Option.{Option, none, some}
 use Rattle.laws.specs.First.{table}
 use Rattle.sheet.specs.Office.{Office, bare, mate_of, points, sides, triangles, tail, head}
 use Rattle.sheet.specs.Acceptable.{Acceptable}
 use Rattle.rim.specs.Peel.{mark, rim, on_rim, long, best, turned, rims, doubled}
 use Rattle.rim.specs.Reached.{Reached}
-use Rattle.rim.specs.declared.answers.Best.{Best}
-use Rattle.rim.specs.declared.answers.Best.TheVariants.{Side, Nothing}
+use Rattle.rim.specs.declared.answers.Side.{Side}
 use Rattle.rim.specs.declared.answers.Step.{Step}
-use Rattle.rim.specs.declared.answers.Step.TheVariants.{Peeled, Nothing as Stays}
+use Rattle.rim.specs.declared.answers.Step.TheVariants.{Peeled, Nothing}
 
 -- the definitions' marks: those in front, one a triangle
 abbrev pub front : List ℕ → List ℕ → List ℕ
@@ -24,9 +23,9 @@ pub record Held (o : Office) (mate kept rim : List ℕ) : Type 0 where
   pub on : (p : ℕ) → p < points o → get_or rim p 0 ≡ mark (on_rim o (front o.corners kept) p)
 
 -- the side found, with its squared length
-abbrev pub told : Office → Option ℕ → Best
-told o none = Nothing
-told o (some s) = Side s (long o s)
+abbrev pub told : Office → Option ℕ → Maybe Side
+told o none = None
+told o (some s) = Some (record { place = s; squared = long o s })
 
 -- marks on the way, and their tally
 pub record State (o : Office) (mate kept rim : List ℕ) (peeled area ring : ℕ) : Type 0 where
@@ -37,11 +36,11 @@ pub record State (o : Office) (mate kept rim : List ℕ) (peeled area ring : ℕ
 
 -- what a step answers where the side to peel next is known
 abbrev pub answered : Office → ℕ → Option ℕ → Step
-answered o limit none = Stays
-answered o limit (some s) = cond (ltb limit (long o s)) (Peeled (s / 3) (long o s)) Stays
+answered o limit none = Nothing
+answered o limit (some s) = cond (ltb limit (long o s)) (Peeled (s / 3) (long o s)) Nothing
 
 abbrev pub peels_of : Step → ℕ
-peels_of Stays = 0
+peels_of Nothing = 0
 peels_of (Peeled t q) = 1
 
 -- what a step does: it peels the best side above the limit, and tells so

@@ -1,13 +1,12 @@
 -- The sides that wait to be peeled, as a binary heap at the front of a list, with their keys beside: none goes before the one above it.
 -- Assumes nothing.
-use Rattle.std.specs.Prelude.{◌≡◌, ◌⊎◌, true, false, cond, List, ℕ, ◌+◌, ◌*◌, ◌-◌, ◌/◌, ◌<◌, ◌≤◌, eqb, length, get_or}
+use Rattle.std.specs.Prelude.{Option, Some, ◌≡◌, ◌⊎◌, true, false, cond, List, ℕ, ◌+◌, ◌*◌, ◌-◌, ◌/◌, ◌<◌, ◌≤◌, eqb, length, get_or}
 use Rattle.laws.specs.First.{sum}
 use Rattle.sheet.specs.Plane.{Point}
 use Rattle.sheet.specs.Office.{Office, sides, point, apex}
 use Rattle.rim.specs.Peel.{rim, on_rim, removable, long, first_end, second_end, best, rims}
 use Rattle.rim.specs.Code.{told}
-use Rattle.rim.specs.declared.answers.Best.{Best}
-use Rattle.rim.specs.declared.answers.Best.TheVariants.{Side}
+use Rattle.rim.specs.declared.answers.Side.{Side}
 
 -- a point in one number, by x and then by y
 abbrev pub packed : Point → ℕ
@@ -81,7 +80,7 @@ pub record Queued (o : Office) (k queue keys : List ℕ) (n : ℕ) : Type 0 wher
   pub on : (s : ℕ) → 0 < tally s queue n → on_rim o k (apex o s) ≡ false → rim o k s ≡ true
 
 -- the side to peel next is found, and stands first
-pub record Next (o : Office) (k queue keys : List ℕ) (n : ℕ) (found : Best) : Type 0 where
+pub record Next (o : Office) (k queue keys : List ℕ) (n : ℕ) (found : Option Side) : Type 0 where
   pub queued : Queued o k queue keys n
   pub is_best : found ≡ told o (best o k)
-  pub is_first : (s q : ℕ) → found ≡ Side s q → (0 < n) × (s ≡ get_or queue 0 0)
+  pub is_first : (s : Side) → found ≡ Some s → (0 < n) × (s.place ≡ get_or queue 0 0)

@@ -3,17 +3,18 @@
 #![tactic(auto)]
 
 pub mod answers;
-pub mod keys;
+mod keys;
+pub mod office;
 pub mod queue;
-pub mod ring;
+mod ring;
 mod sides;
-pub mod start;
+mod start;
 pub mod step;
 
 ghost use Rattle.std.specs.Prelude.{◌≡◌, ◌+◌, ◌<◌};
 
 // The running tally: triangles peeled, twice the area of those kept, and the ring's length.
-#[derive(Clone, Copy)]
+#[derive(Clone, Copy, Debug, PartialEq, Eq)]
 pub struct Tally {
     pub peeled: u32,
     pub area: u32,
@@ -27,8 +28,8 @@ impl Tally {
     {
         Tally {
             peeled: 0,
-            area: area,
-            ring: ring,
+            area,
+            ring,
         }
     }
 
@@ -39,8 +40,8 @@ impl Tally {
     {
         Tally {
             peeled: self.peeled + 1,
-            area: area,
-            ring: ring,
+            area,
+            ring,
         }
     }
 }

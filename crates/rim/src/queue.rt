@@ -1,272 +1,182 @@
 // The sides that wait to be peeled: a binary heap of their places, with the key of each beside it. The side that goes before all others
 // stands first. No more wait than the rim has sides, so 1,024 places are enough.
 // For the layer above: no public call, so a `requires` may stand.
-ghost use Rattle.std.specs.Prelude.{◌≡◌, cond, ◌+◌, ◌*◌, ◌/◌, ◌%◌, ◌<◌, ◌≤◌, ltb, eqb, length, get_or, take};
-ghost use Rattle.laws.specs.First.{table};
-ghost use Rattle.sheet.specs.Office.{office, mate_of, next, last};
-ghost use Rattle.sheet.specs.Acceptable.{Acceptable};
-ghost use Rattle.sheet.specs.Code.{Numbered};
+ghost use Rattle.std.specs.Prelude.{◌≡◌, ◌+◌, ◌/◌, ◌<◌, ◌≤◌, length, get_or, set};
+ghost use Rattle.sheet.specs.Office.{next, last};
 ghost use Rattle.rim.specs.Code.{front, Held};
-ghost use Rattle.rim.specs.Heap.{rank, Heap, Pushed, Sunk, Popped, Joined, Leading, Queued, Next};
-ghost use Rattle.rim.specs.Heap as Heap;
+ghost use Rattle.rim.specs.Heap.{Pushed, Sunk, Popped, Joined, Leading, Next};
+ghost use Rattle.rim.specs.Plan.{plan, Known, Heaped, Waits};
 ghost use Rattle.rim.specs.Peel as peeling;
 
-use crate::answers::{Best, Found};
-use crate::keys::{Key, key_of, length_of, second_before};
-use crate::sides::is_rim;
-use sheet::plane::wide;
+use crate::answers::Side;
+use crate::keys::{Key, Keyed, length_of};
+use crate::office::Accepted;
+use sheet::sides::{last_of, next_of};
 
-// Whether side s, of that key, goes before side r, of key other.
-fn outranks(xs: &[u16], ys: &[u16], corners: &[u16], s: u16, key: Key, r: u16, other: Key) -> bool
-    requires { Acceptable (office xs.now ys.now corners.now) × (s < length corners.now) × (r < length corners.now) × (key ≡ Heap.key (office xs.now ys.now corners.now) s) × (other ≡ Heap.key (office xs.now ys.now corners.now) r) }
-    ensures { result ≡ ltb (rank (office xs.now ys.now corners.now) r) (rank (office xs.now ys.now corners.now) s) }
-{
-    if other != key {
-        return other < key;
-    }
-    second_before(xs, ys, corners, s, r)
-}
-
-// 1 for yes, 0 for no: what it is added to needs no branch.
-fn one_if(yes: bool) -> usize
-    ensures { (result ≡ cond yes 1 0) × (result ≤ 1) }
-{
-    yes as usize
-}
-
-// Puts side s, of that key, to the n that wait.
-pub fn push(
-    xs: &[u16],
-    ys: &[u16],
-    corners: &[u16],
-    queue: &mut [u16; 1024],
-    keys: &mut [Key; 1024],
-    n: usize,
-    s: u16,
-    key: Key,
-)
-    requires acceptable { Acceptable (office xs.now ys.now corners.now) × (n < 1024) × Heap (office xs.now ys.now corners.now) queue.old keys.old n }
-    requires s_in_bounds { (s < length corners.now) × (key ≡ Heap.key (office xs.now ys.now corners.now) s) }
-    ensures { Pushed (office xs.now ys.now corners.now) queue.old queue.new keys.new n s }
-{
-    let mut i = n;
-    while i > 0 {
-        let p = (i - 1) / 2;
-        let other = queue[p];
-        let than = keys[p];
-        let up = outranks(xs, ys, corners, s, key, other, than);
-        if !up {
-            break;
-        }
-        queue[i] = other;
-        keys[i] = than;
-        i = p;
-    }
-    queue[i] = s;
-    keys[i] = key;
-}
-
-// Of place c and the next, of those below m, the one whose side goes first.
-pub fn leader(
-    xs: &[u16],
-    ys: &[u16],
-    corners: &[u16],
-    queue: &[u16; 1024],
-    keys: &[Key; 1024],
-    m: usize,
-    c: usize,
-) -> usize
-    requires { Acceptable (office xs.now ys.now corners.now) × (c < m) × (m ≤ 1024) × Heap (office xs.now ys.now corners.now) queue.now keys.now m }
-    ensures { Leading (office xs.now ys.now corners.now) queue.now m c result }
-{
-    let d = c + 1;
-    if d >= m {
-        return c;
-    }
-    let one = keys[c];
-    let two = keys[d];
-    if one != two {
-        return c + one_if(one < two);
-    }
-    let later = second_before(xs, ys, corners, queue[d], queue[c]);
-    if later {
-        return d;
-    }
-    c
-}
-
-// Puts side s, of that key, in the place of the first of the m that wait.
-pub fn sink(
-    xs: &[u16],
-    ys: &[u16],
-    corners: &[u16],
-    queue: &mut [u16; 1024],
-    keys: &mut [Key; 1024],
-    m: usize,
-    s: u16,
-    key: Key,
-)
-    requires acceptable { Acceptable (office xs.now ys.now corners.now) × (0 < m) × (m ≤ 1024) × Heap (office xs.now ys.now corners.now) queue.old keys.old m }
-    requires s_in_bounds { (s < length corners.now) × (key ≡ Heap.key (office xs.now ys.now corners.now) s) }
-    ensures { Sunk (office xs.now ys.now corners.now) queue.old queue.new keys.new m s }
-{
-    let mut i = 0;
-    let mut c = 1;
-    while c < m {
-        let g = leader(xs, ys, corners, queue, keys, m, c);
-        let other = queue[g];
-        let than = keys[g];
-        let up = outranks(xs, ys, corners, other, than, s, key);
-        if !up {
-            break;
-        }
-        queue[i] = other;
-        keys[i] = than;
-        i = g;
-        c = 2 * g + 1;
-    }
-    queue[i] = s;
-    keys[i] = key;
-}
-
-// Drops the first of the n that wait.
-pub fn drop_first(
-    xs: &[u16],
-    ys: &[u16],
-    corners: &[u16],
-    queue: &mut [u16; 1024],
-    keys: &mut [Key; 1024],
-    n: usize,
-)
-    requires { Acceptable (office xs.now ys.now corners.now) × (0 < n) × (n ≤ 1024) × Heap (office xs.now ys.now corners.now) queue.old keys.old n }
-    ensures { Popped (office xs.now ys.now corners.now) queue.old queue.new keys.new n }
-{
-    let m = n - 1;
-    if m > 0 {
-        let s = queue[m];
-        let key = keys[m];
-        sink(xs, ys, corners, queue, keys, m, s, key);
-    }
-}
-
-// Whether side s is stuck: its triangle's third corner is on the rim, where it stays, so the side is never removable.
-pub fn is_stuck(corners: &[u16], rim: &[u8], s: usize) -> bool
-    requires { (length corners.now % 3 ≡ 0) × (length corners.now ≤ 6129) × (s < length corners.now) × Numbered corners.now (length rim.now) }
-    ensures { result ≡ eqb (get_or rim.now (get_or corners.now (last s) 0) 0) 1 }
-{
-    let a = s / 3 * 3 + (s + 2) % 3;
-    let apex = wide(corners[a]);
-    rim[apex] == 1
-}
-
-// Of the mates of the two other sides of side s's triangle, puts those that are not stuck in the place of the first of the n that wait; how many
-// wait then. Where both are stuck the first stays: it is stuck too by now, and dropped when it is met.
-pub fn join(
-    xs: &[u16],
-    ys: &[u16],
-    corners: &[u16],
-    mate: &[u16; 6129],
-    rim: &[u8],
-    queue: &mut [u16; 1024],
-    keys: &mut [Key; 1024],
-    n: usize,
-    s: usize,
-) -> usize
-    requires acceptable { Acceptable (office xs.now ys.now corners.now) × (0 < n) × (n < 1024) × Heap (office xs.now ys.now corners.now) queue.old keys.old n × (length xs.now ≤ length rim.now) }
-    requires s_in_bounds { (s < length corners.now) × (get_or mate.now (next s) 0 < length corners.now) × (get_or mate.now (last s) 0 < length corners.now) }
-    ensures { Joined (office xs.now ys.now corners.now) rim.now queue.old queue.new keys.new n result (get_or mate.now (next s) 0) (get_or mate.now (last s) 0) }
-{
-    let e = s / 3 * 3 + (s + 1) % 3;
-    let outward = mate[e];
-    let out = wide(outward);
-    let f = s / 3 * 3 + (s + 2) % 3;
-    let inward = mate[f];
-    let into = wide(inward);
-    let one = is_stuck(corners, rim, out);
-    let two = is_stuck(corners, rim, into);
-    if one & two {
-        return n;
-    }
-    if one {
-        let only = key_of(xs, ys, corners, into);
-        sink(xs, ys, corners, queue, keys, n, inward, only);
-        return n;
-    }
-    let first = key_of(xs, ys, corners, out);
-    sink(xs, ys, corners, queue, keys, n, outward, first);
-    if two {
-        return n;
-    }
-    let second = key_of(xs, ys, corners, into);
-    push(xs, ys, corners, queue, keys, n, inward, second);
-    n + 1
-}
-
-// Puts all sides of the rim into the queue; how many they are.
-pub fn gather(
-    xs: &[u16],
-    ys: &[u16],
-    corners: &[u16],
-    mate: &[u16; 6129],
-    kept: &[u8],
-    queue: &mut [u16; 1024],
-    keys: &mut [Key; 1024],
-) -> usize
-    requires acceptable { Acceptable (office xs.now ys.now corners.now) × (length corners.now / 3 ≤ length kept.now) × (peeling.rims (office xs.now ys.now corners.now) (front corners.now kept.now) ≤ 1024) × (length queue.old ≡ 1024) × (length keys.old ≡ 1024) }
-    requires mate_value { take (length corners.now) mate.now ≡ table (mate_of corners.now) (length corners.now) }
-    ensures { Queued (office xs.now ys.now corners.now) (front corners.now kept.now) queue.new keys.new result }
-{
-    let mut n = 0;
-    let mut s = 0;
-    while s < corners.len() {
-        let here = s;
-        s += 1;
-        let bared = is_rim(corners, mate, kept, here);
-        if bared {
-            let key = key_of(xs, ys, corners, here);
-            push(xs, ys, corners, queue, keys, n, here as u16, key);
-            n += 1;
-        }
-    }
-    n
-}
-
-// The side to peel next, which then stands first. Sides before it whose triangle's third corner is on the rim are dropped: they are not removable any more.
-pub fn next_side(
-    xs: &[u16],
-    ys: &[u16],
-    corners: &[u16],
-    mate: &[u16; 6129],
-    kept: &[u8],
-    rim: &[u8],
-    queue: &mut [u16; 1024],
-    keys: &mut [Key; 1024],
+// The places of the sides and their keys, in two lists, since a side takes 10 bytes so and would take 16 as a pair; and how many wait.
+#[derive(Drop)]
+pub struct Queue {
+    places: [u16; 1024],
+    keys: [Key; 1024],
     waiting: usize,
-) -> Found
-    requires { Held (office xs.now ys.now corners.now) mate.now kept.now rim.now × (waiting ≤ 1024) × Queued (office xs.now ys.now corners.now) (front corners.now kept.now) queue.old keys.old waiting }
-    ensures { Next (office xs.now ys.now corners.now) (front corners.now kept.now) queue.new keys.new result.waiting result.side }
-{
-    let mut n = waiting;
-    while n > 0 {
-        let s = wide(queue[0]);
-        let a = s / 3 * 3 + (s + 2) % 3;
-        let apex = wide(corners[a]);
-        let free = rim[apex] != 1;
-        if free {
-            let first = keys[0];
-            return Found {
-                side: Best::Side {
-                    place: s,
-                    squared: length_of(first),
-                },
-                waiting: n,
-            };
+}
+
+impl Queue {
+    // All sides of the rim wait, and no others.
+    pub fn of_rim(office: &Accepted, kept: &[u8]) -> Queue
+        requires { (length office.now.corners.now / 3 ≤ length kept.now) × (peeling.rims (plan office.now) (front office.now.corners.now kept.now) ≤ 1024) }
+        ensures { Waits (plan office.now) (front office.now.corners.now kept.now) result }
+    {
+        let mut queue = Queue {
+            places: [0; 1024],
+            keys: [0; 1024],
+            waiting: 0,
+        };
+        for s in 0..office.corners.len() {
+            if office.is_rim(kept, s) {
+                queue.push(office, office.keyed(s as u16));
+            }
         }
-        drop_first(xs, ys, corners, queue, keys, n);
-        n -= 1;
+        queue
     }
-    Found {
-        side: Best::Nothing,
-        waiting: n,
+
+    fn at(&self, i: usize) -> Keyed
+        requires { (i < length self.now.places) × (i < length self.now.keys) }
+        ensures { (result.side ≡ get_or self.now.places i 0) × (result.key ≡ get_or self.now.keys i 0) }
+    {
+        Keyed {
+            side: self.places[i],
+            key: self.keys[i],
+        }
+    }
+
+    fn put(&mut self, i: usize, side: Keyed)
+        requires { (i < length self.old.places) × (i < length self.old.keys) }
+        ensures { (self.new.places ≡ set self.old.places i side.side) × (self.new.keys ≡ set self.old.keys i side.key) × (self.new.waiting ≡ self.old.waiting) }
+    {
+        self.places[i] = side.side;
+        self.keys[i] = side.key;
+    }
+
+    // Puts a side to those that wait.
+    fn push(&mut self, office: &Accepted, side: Keyed)
+        requires heaped { Heaped (plan office.now) self.old × (self.old.waiting < 1024) }
+        requires side_known { Known (plan office.now) side }
+        ensures pushed { Pushed (plan office.now) self.old.places self.new.places self.new.keys self.old.waiting side.side }
+        ensures one_more { self.new.waiting ≡ self.old.waiting + 1 }
+    {
+        let mut i = self.waiting;
+        while i > 0 {
+            let p = (i - 1) / 2;
+            let above = self.at(p);
+            if !office.outranks(side, above) {
+                break;
+            }
+            self.put(i, above);
+            i = p;
+        }
+        self.put(i, side);
+        self.waiting += 1;
+    }
+
+    // Of place c and the next, of those that wait, the one whose side goes first. Where the keys differ, what is added to c needs no branch.
+    fn leader(&self, office: &Accepted, c: usize) -> usize
+        requires { (c < self.now.waiting) × (self.now.waiting ≤ 1024) × Heaped (plan office.now) self.now }
+        ensures { Leading (plan office.now) self.now.places self.now.waiting c result }
+    {
+        let d = c + 1;
+        if d >= self.waiting {
+            return c;
+        }
+        let one = self.keys[c];
+        let two = self.keys[d];
+        if one != two {
+            return c + usize::from(one < two);
+        }
+        if office.second_before(self.places[d], self.places[c]) {
+            d
+        } else {
+            c
+        }
+    }
+
+    // Puts a side in the place of the first.
+    fn sink(&mut self, office: &Accepted, side: Keyed)
+        requires heaped { Heaped (plan office.now) self.old × (0 < self.old.waiting) × (self.old.waiting ≤ 1024) }
+        requires side_known { Known (plan office.now) side }
+        ensures sunk { Sunk (plan office.now) self.old.places self.new.places self.new.keys self.old.waiting side.side }
+        ensures as_many { self.new.waiting ≡ self.old.waiting }
+    {
+        let mut i = 0;
+        let mut c = 1;
+        while c < self.waiting {
+            let g = self.leader(office, c);
+            let under = self.at(g);
+            if !office.outranks(under, side) {
+                break;
+            }
+            self.put(i, under);
+            i = g;
+            c = 2 * g + 1;
+        }
+        self.put(i, side);
+    }
+
+    // Drops the first.
+    fn drop_first(&mut self, office: &Accepted)
+        requires { Heaped (plan office.now) self.old × (0 < self.old.waiting) × (self.old.waiting ≤ 1024) }
+        ensures popped { Popped (plan office.now) self.old.places self.new.places self.new.keys self.old.waiting }
+        ensures one_less { self.new.waiting + 1 ≡ self.old.waiting }
+    {
+        self.waiting -= 1;
+        if self.waiting > 0 {
+            let last = self.at(self.waiting);
+            self.sink(office, last);
+        }
+    }
+
+    // Of the mates of the two other sides of side s's triangle, puts those that are not stuck in the place of the first. Where both are stuck the
+    // first stays: it is stuck too by now, and dropped when it is met.
+    pub fn join(&mut self, office: &Accepted, rim: &[u8], s: usize)
+        requires heaped { Heaped (plan office.now) self.old × (0 < self.old.waiting) × (self.old.waiting < 1024) × (length office.now.xs.now ≤ length rim.now) }
+        requires s_in_bounds { (s < length office.now.corners.now) × (get_or office.now.mate.now (next s) 0 < length office.now.corners.now) × (get_or office.now.mate.now (last s) 0 < length office.now.corners.now) }
+        ensures { Joined (plan office.now) rim.now self.old.places self.new.places self.new.keys self.old.waiting self.new.waiting (get_or office.now.mate.now (next s) 0) (get_or office.now.mate.now (last s) 0) }
+    {
+        let outward = office.mate[next_of(s)];
+        let inward = office.mate[last_of(s)];
+        let one = office.is_stuck(rim, usize::from(outward));
+        let two = office.is_stuck(rim, usize::from(inward));
+        if one & two {
+            return;
+        }
+        if one {
+            self.sink(office, office.keyed(inward));
+            return;
+        }
+        self.sink(office, office.keyed(outward));
+        if two {
+            return;
+        }
+        self.push(office, office.keyed(inward));
+    }
+
+    // The side to peel next, which then stands first. Sides before it whose triangle's third corner is on the rim are dropped: they are not removable
+    // any more.
+    pub fn next_side(&mut self, office: &Accepted, kept: &[u8], rim: &[u8]) -> Option<Side>
+        requires { Held (plan office.now) office.now.mate.now kept.now rim.now × (self.old.waiting ≤ 1024) × Waits (plan office.now) (front office.now.corners.now kept.now) self.old }
+        ensures { Next (plan office.now) (front office.now.corners.now kept.now) self.new.places self.new.keys self.new.waiting result }
+    {
+        while self.waiting > 0 {
+            let s = usize::from(self.places[0]);
+            let free = !office.is_stuck(rim, s);
+            if free {
+                return Some(Side {
+                    place: s,
+                    squared: length_of(self.keys[0]),
+                });
+            }
+            self.drop_first(office);
+        }
+        None
     }
 }

@@ -1,0 +1,7 @@
+-- The areas below t are added.
+use Rattle.rim.specs.Plan.{plan}
+use Rattle.rim.proofs.Begun.{Summed}
+use Rattle.rim.proofs.office.Accepted.area_all.Given as goal
+
+abbrev pub invariant-loop-t : goal.invariant-loop-t
+invariant-loop-t l = Summed (plan l.self) l.t l.total

@@ -1,0 +1,20 @@
+-- The office that the code holds, and the sides in a queue. Assumes nothing.
+use Rattle.std.specs.Prelude.{◌≡◌, ◌<◌, ℕ, List}
+use Rattle.sheet.specs.Office.{Office, office, sides}
+use Rattle.rim.specs.Heap.{Heap, Queued, key}
+use Rattle.rim.specs.declared.office.Accepted.{Accepted}
+use Rattle.rim.specs.declared.keys.Keyed.{Keyed}
+use Rattle.rim.specs.declared.queue.Queue.{Queue}
+
+abbrev pub plan : Accepted → Office
+plan a = office a.xs.now a.ys.now a.corners.now
+
+-- a side of the office, with its own key
+abbrev pub Known : Office → Keyed → Type 0
+Known o w = (w.side < sides o) × (w.key ≡ key o w.side)
+
+abbrev pub Heaped : Office → Queue → Type 0
+Heaped o q = Heap o q.places q.keys q.waiting
+
+abbrev pub Waits : Office → List ℕ → Queue → Type 0
+Waits o k q = Queued o k q.places q.keys q.waiting
