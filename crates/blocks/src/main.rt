@@ -6,83 +6,37 @@ mod stored;
 
 ghost use Rattle.std.specs.Prelude.{◌≤◌, length};
 
-use exchange::{Coordinate, District, Judged, Reading};
-use sheet::Refusal;
+use exchange::Coordinate;
+use sheet::{Refusal, Rule};
 use std::io;
 
-fn show_position(rt: &impl Print, x: u16, y: u16) -> io::Result<()> {
-    print!(rt; " {x},{y}")
-}
-
 // The positions from one place up to another.
-fn show_positions(rt: &impl Print, xs: &[u16], ys: &[u16], from: usize, to: usize) -> io::Result<()>
-    requires { length xs.now ≤ length ys.now }
-{
-    let mut i = 0;
-    while i < xs.len() {
-        if from <= i {
-            if i < to {
-                show_position(rt, xs[i], ys[i])?;
-            }
-        }
-        i += 1;
-    }
-    Ok(())
-}
-
-fn show_ring(rt: &impl Print, xs: &[u16], ys: &[u16], from: usize, to: usize) -> io::Result<()>
-    requires { length xs.now ≤ length ys.now }
-{
+fn show_ring(rt: &impl Print, xs: &[u16], ys: &[u16], from: usize, to: usize) -> io::Result<()> {
     if from < to {
         let count = to - from;
         print!(rt; " ring of {count}:")?;
-        show_positions(rt, xs, ys, from, to)?;
+        for (x, y) in xs.iter().zip(ys).take(to).skip(from) {
+            print!(rt; " {x},{y}")?;
+        }
     }
     Ok(())
 }
 
-fn wide(x: u16) -> usize
-    ensures { result ≤ 65535 }
+// Rings of some lengths, one after another in the lists.
+fn show_rings(rt: &impl Print, xs: &[u16], ys: &[u16], lengths: &[u16]) -> io::Result<()>
+    requires { length lengths.now ≤ 8 }
 {
-    x as usize
-}
-
-// The length of the i-th of n rings, and 0 past them.
-fn length_of(lengths: &[u16; 8], i: usize, n: usize) -> usize
-    ensures { result ≤ 65535 }
-{
-    if n <= i {
-        return 0;
-    }
-    if 8 <= i {
-        return 0;
-    }
-    wide(lengths[i])
-}
-
-// The first n rings, one after another in the lists.
-fn show_rings(
-    rt: &impl Print,
-    xs: &[u16],
-    ys: &[u16],
-    lengths: &[u16; 8],
-    n: usize,
-) -> io::Result<()>
-    requires { length xs.now ≤ length ys.now }
-{
-    let mut i = 0;
     let mut from = 0;
-    while i < 8 {
-        let to = from + length_of(lengths, i, n);
+    for length in lengths {
+        let to = from + usize::from(*length);
         show_ring(rt, xs, ys, from, to)?;
-        i += 1;
         from = to;
     }
     Ok(())
 }
 
 fn show_value(rt: &impl Print, x: f64) -> io::Result<()> {
-    if x < f64::from_bits(0x7ff0_0000_0000_0000) {
+    if x < f64::INFINITY {
         let pattern = f64::to_bits(x);
         print!(rt; ", off the grid: {pattern:016x}")?;
     }
@@ -91,21 +45,18 @@ fn show_value(rt: &impl Print, x: f64) -> io::Result<()> {
 
 // What the coordinate at a place is, in the block's byte order.
 fn show_coordinate(rt: &impl Print, block: &[u8], place: usize) -> io::Result<()> {
-    if 0 < block.len() {
-        let judged = exchange::judge(block, block[0], place);
-        if let Judged::As(c) = judged {
-            match c {
-                Coordinate::Grid(_) => {}
-                Coordinate::OffGrid(x) => show_value(rt, x)?,
-                Coordinate::NotFinite => print!(rt; ", not finite")?,
-            }
+    if let Some(order) = block.first() {
+        match exchange::judge(block, *order, place) {
+            Ok(Coordinate::OffGrid(x)) => show_value(rt, x)?,
+            Ok(Coordinate::NotFinite) => print!(rt; ", not finite")?,
+            _ => {}
         }
     }
     Ok(())
 }
 
 fn show_refusal(rt: &impl Print, r: Refusal) -> io::Result<()> {
-    let number = r.number;
+    let number = r.rule.number();
     let place = r.place;
     print!(rt; ": refused {number} {place}")
 }
@@ -114,20 +65,15 @@ fn show(rt: &impl Print, name: &str, block: &[u8]) -> io::Result<()> {
     let mut xs = [0u16; 16];
     let mut ys = [0u16; 16];
     print!(rt; "{name}")?;
-    let answer = exchange::read(block, &mut xs, &mut ys);
-    match answer {
-        Reading::Ring(n) => {
+    match exchange::read(block, &mut xs, &mut ys) {
+        Ok(n) => {
             print!(rt; ":")?;
             show_ring(rt, &xs, &ys, 0, n)?;
         }
-        Reading::Refused(r) => {
-            let number = r.number;
-            let place = r.place;
-            show_refusal(rt, r)?;
-            if 25 <= number {
-                if number <= 26 {
-                    show_coordinate(rt, block, place)?;
-                }
+        Err(refusal) => {
+            show_refusal(rt, refusal)?;
+            if let Rule::NotFinite | Rule::OffGrid = refusal.rule {
+                show_coordinate(rt, block, refusal.place)?;
             }
         }
     }
@@ -139,15 +85,12 @@ fn show_district(rt: &impl Print, name: &str, block: &[u8]) -> io::Result<()> {
     let mut ys = [0u16; 16];
     let mut lengths = [0u16; 8];
     print!(rt; "{name}")?;
-    let answer = exchange::read_district(block, &mut xs, &mut ys, &mut lengths);
-    match answer {
-        District::Rings(n) => {
+    match exchange::read_district(block, &mut xs, &mut ys, &mut lengths) {
+        Ok(n) => {
             print!(rt; ": district of {n}:")?;
-            show_rings(rt, &xs, &ys, &lengths, n)?;
+            show_rings(rt, &xs, &ys, &lengths[..n.min(8)])?;
         }
-        District::Refused(r) => {
-            show_refusal(rt, r)?;
-        }
+        Err(refusal) => show_refusal(rt, refusal)?,
     }
     println!(rt; "")
 }

@@ -8,26 +8,37 @@ use borrow.Author.Tests.{leb-true, le-leb}
 use lib.Dec.{leb}
 use lib.ListN.{length}
 use Rattle.laws.proofs.Test.{and_iff}
+use Rattle.shape.specs.declared.block.ByteOrder.{ByteOrder}
+use Rattle.shape.specs.Bytes.{code, order_of, number_at}
+use Rattle.shape.specs.Coordinates.{ended, whole}
 use Rattle.shape.specs.Answers.{must, Answer, gives, refused, asked}
-use Rattle.shape.specs.Reading.{type_asks}
-use Rattle.shape.proofs.Asking.{fault, passes, passes_all, stops_first, stops_call, passes_call, stops_above, passes_below, ends, given_is, gives_other}
+use Rattle.shape.specs.Reading.{order_at, type_asks}
+use Rattle.shape.proofs.Asking.{fault, passes, passes_all, stops_first, stops_call, passes_call, stops_above, passes_below, ends, given_is, gives_other, refused_other}
 use Rattle.shape.proofs.Heads.{passed_one, passed_all, passed_both}
-use Rattle.shape.proofs.Shapes.{typed, typed_passes}
+use Rattle.shape.proofs.Shapes.{typed, typed_passes, order_is}
 use Rattle.exchange.specs.Districts.{parts_asks, ring_count, district_end, ring_count_asks, district_head_asks, district_asks, district_answer}
 use Rattle.exchange.specs.DistrictRefusals.{GoodDistrictHead}
 use Rattle.exchange.proofs.Parts.{parted, Fine}
 
 -- ---- the head of a file, after a byte order and a type that are good
 
-module _ (s : List ℕ) (places : ℕ) (g : gives tt ≡ fault (type_asks s 0 6 22)) where
-  then_count : {x : Answer ℕ} → x ≡ asked (ring_count_asks s places) (ring_count s) → x ≡ asked (district_head_asks s places) (ring_count s)
-  then_count e = passes_all (type_asks s 0 6 22) (ring_count_asks s places) tt (ring_count s) g e
+pub type_refused : {x : Answer ℕ} {n p : ℕ} (s : List ℕ) (places : ℕ) → refused n p ≡ asked (type_asks s 0 6 22) (order_of (order_at s 0)) → x ≡ refused n p
+    → x ≡ asked (district_head_asks s places) (ring_count s)
+type_refused {x} {n} {p} s places e h = stops_first (type_asks s 0 6 22) (ring_count_asks s places) (order_of (order_at s 0)) (ring_count s) n p e h
 
-  pub no_count : {x : Answer ℕ} → length s < 9 → x ≡ refused 20 5 → x ≡ asked (district_head_asks s places) (ring_count s)
-  no_count h e = then_count (stops_above 9 (length s) 20 5 _ _ h e)
+module _ (s : List ℕ) (places : ℕ) {order : ByteOrder} (found : gives order ≡ asked (type_asks s 0 6 22) (order_of (order_at s 0))) where
+  then_count : {x : Answer ℕ} → x ≡ asked (ring_count_asks s places) (ring_count s) → x ≡ asked (district_head_asks s places) (ring_count s)
+  then_count e = passes_all (type_asks s 0 6 22) (ring_count_asks s places) (order_of (order_at s 0)) (ring_count s) found e
+
+  pub no_count : {x : Answer ℕ} {n p : ℕ} → refused n p ≡ asked (whole 4 s 5 ∷ []) (tt {0}) → x ≡ refused n p → x ≡ asked (district_head_asks s places) (ring_count s)
+  no_count {x} {n} {p} e h =
+      then_count (stops_first (whole 4 s 5 ∷ []) (must (leb 1 (ring_count s) && leb (ring_count s) 32) 35 5 ∷ must (leb (ring_count s) places) 29 5 ∷ []) (tt {0}) (ring_count s) n p e h)
 
   -- the count was read as n, and tested
-  module _ (n : ℕ) (h : 9 ≤ length s) (is : n ≡ ring_count s) {t : Bool} (test : t ≡ (leb 1 n && leb n 32)) where
+  module _ (n : ℕ) (h : 9 ≤ length s) (read : n ≡ number_at 4 (code order) s 5) {t : Bool} (test : t ≡ (leb 1 n && leb n 32)) where
+    is : n ≡ ring_count s
+    is = read ∙ ap (λ (o : ℕ). number_at 4 o s 5) (order_is s 0 6 22 found)
+
     tested : t ≡ (leb 1 (ring_count s) && leb (ring_count s) 32)
     tested = test ∙ ap (λ (k : ℕ). leb 1 k && leb k 32) is
 
@@ -106,8 +117,9 @@ module _ (s : List ℕ) (places m : ℕ) (answer : gives m ≡ asked (district_h
           passes_all (district_asks s places room) _ (district_end s) (ring_count s)
           (then_parts (district_end s) (ap gives (sym to_is) ∙ scan ∙ counted)) e
 
-      pub bytes_left : {x : Answer ℕ} → to < length s → x ≡ refused 28 to → x ≡ district_answer s places room
-      bytes_left h e = then_end (stops_above (length s) (district_end s) 28 (district_end s) [] (ring_count s) (omega (arith, to_is)) (e ∙ ap (refused 28) to_is))
+      pub bytes_left : {x : Answer ℕ} {k p : ℕ} → refused k p ≡ asked (ended s to ∷ []) (tt {0}) → x ≡ refused k p → x ≡ district_answer s places room
+      bytes_left {x} {k} {p} e h =
+          then_end (refused_other (ended s (district_end s) ∷ []) (tt {0}) (ring_count s) k p (e ∙ ap (λ (n : ℕ). asked (ended s n ∷ []) (tt {0})) to_is) h)
 
       pub all_read : length s ≤ to → gives m ≡ district_answer s places room
       all_read h = then_end (passes_below (length s) (district_end s) 28 (district_end s) [] (ring_count s) (omega (arith, to_is)) (ends (ring_count s) (ap gives count_is)))

@@ -62,18 +62,15 @@ low_split n xs e = (low_both (take n xs) (drop n xs)).0 (ap low (take-append-dro
 -- ---- each ring has 3 to 1,024 positions
 
 pub rings_parts : (n : ℕ) (lengths : List ℕ) → rings (n ∷ lengths) ≡ true → (3 ≤ n) × (n ≤ 1024) × (rings lengths ≡ true)
-unfolding rings
 rings_parts n lengths e =
     let t = and_iff.0 e in
     let b = and_iff.0 t.0 in
     (leb-true 3 n b.0, leb-true n 1024 b.1, t.1)
 
 pub rings_more : (n : ℕ) (lengths : List ℕ) → 3 ≤ n → n ≤ 1024 → rings lengths ≡ true → rings (n ∷ lengths) ≡ true
-unfolding rings
 rings_more n lengths lo hi e = and_iff.1 (and_iff.1 (le-leb 3 n lo, le-leb n 1024 hi), e)
 
 pub rings_none : rings [] ≡ true
-unfolding rings
 rings_none = refl
 
 -- ... in plain logic

@@ -5,10 +5,12 @@ use mathlib.Core.Bool.{Bool, true, false, not, ◌&&◌}
 use mathlib.Core.List.{List, [], ◌∷◌, ◌++◌}
 use native.Mathlib.Omega.{arith}
 use borrow.Rule.Slice.PartMut.{mid_of, put_mid, mid_len}
-use borrow.Author.Tests.{leb-true, eqb-true, not-true, not-false}
+use borrow.Author.Tests.{leb-true, eqb-true, not-false}
 use lib.Dec.{leb, eqb}
-use lib.ListN.{length, take, drop, get_or, replicate, length-drop, drop_of_length-le}
+use lib.ListN.{length, take, drop, get_or, replicate, length-drop}
 use lib.Seq.{drop-cons, drop-drop, length-take-le, sets, length-sets}
+use Rattle.std.specs.Prelude.{sum}
+use Rattle.std.specs.List.{fold}
 use Rattle.laws.proofs.Test.{and_iff}
 use Rattle.laws.proofs.Put.{put_next, put_rest}
 use Rattle.shape.specs.Answers.{must, Answer, asked}
@@ -20,34 +22,21 @@ use Rattle.exchange.proofs.DistrictLaws.{rings_parts, district_head_length}
 
 -- ---- the lengths from the i-th on
 
+-- the library's sum
+total_from : (lengths : List ℕ) (n : ℕ) → fold ◌+◌ n lengths ≡ n + total lengths
+unfolding total
+total_from [] n = omega arith
+total_from (m ∷ lengths) n = total_from lengths (n + m) ∙ omega arith
+
+pub total_is : (lengths : List ℕ) → sum lengths ≡ total lengths
+total_is lengths = total_from lengths 0 ∙ omega arith
+
 module _ (lengths : List ℕ) (i : ℕ) where
   pub total_step : i < length lengths → total (drop i lengths) ≡ get_or lengths i 0 + total (drop (i + 1) lengths)
   unfolding total
   total_step h =
       let e : i + 1 ≡ suc i = omega arith in
       rw (drop-cons lengths i 0 h, e)
-
-  pub total_end : length lengths ≤ i → total (drop i lengths) ≡ 0
-  unfolding total
-  total_end h = ap total (drop_of_length-le lengths h)
-
-  rings_step : i < length lengths → rings (drop i lengths) ≡ ((leb 3 (get_or lengths i 0) && leb (get_or lengths i 0) 1024) && rings (drop (i + 1) lengths))
-  unfolding rings
-  rings_step h =
-      let e : i + 1 ≡ suc i = omega arith in
-      rw (drop-cons lengths i 0 h, e)
-
-  -- a test of the i-th: r is its answer
-  module _ {r : Bool} (h : i < length lengths) (is : r ≡ (leb 3 (get_or lengths i 0) && leb (get_or lengths i 0) 1024)) where
-    pub rings_stop : not r ≡ true → rings (drop i lengths) ≡ false
-    rings_stop e = rings_step h ∙ ap (λ (b : Bool). b && rings (drop (i + 1) lengths)) (sym is ∙ not-true r e)
-
-    pub rings_on : not r ≡ false → rings (drop (i + 1) lengths) ≡ rings (drop i lengths)
-    rings_on e = sym (rings_step h ∙ ap (λ (b : Bool). b && rings (drop (i + 1) lengths)) (sym is ∙ not-false r e))
-
-  pub rings_end : length lengths ≤ i → true ≡ rings (drop i lengths)
-  unfolding rings
-  rings_end h = ap rings (sym (drop_of_length-le lengths h))
 
   -- where all are rings' lengths, so is the i-th, and so are those after it
   pub rings_next : i < length lengths → rings (drop i lengths) ≡ true → (3 ≤ get_or lengths i 0) × (get_or lengths i 0 ≤ 1024) × (rings (drop (i + 1) lengths) ≡ true)
@@ -113,13 +102,15 @@ pub record Turn (lengths xs ys : List ℕ) (i from room at n : ℕ) : Type 0 whe
   pub room_left : at + (29 + 16 * n) ≤ room
   pub after : Holds lengths xs ys (i + 1) (from + n) room (at + (29 + 16 * n))
 
-pub turn : {lengths xs ys : List ℕ} {i from room at : ℕ} → i < length lengths → Holds lengths xs ys i from room at → Turn lengths xs ys i from room at (get_or lengths i 0)
-turn {lengths} {xs} {ys} {i} {from} {room} {at} h s =
+pub turn : {lengths xs ys : List ℕ} {i from room at n : ℕ} → n ≡ get_or lengths i 0 → i < length lengths → Holds lengths xs ys i from room at → Turn lengths xs ys i from room at n
+turn {lengths} {xs} {ys} {i} {from} {room} {at} {n} is h s =
     let r = rings_next lengths i h s.sized in
     let t = total_step lengths i h in
+    let least : 3 ≤ n = omega (arith, r.0) in
+    let most : n ≤ 1024 = omega (arith, r.1) in
     record {
-      least = r.0;
-      most = r.1;
+      least = least;
+      most = most;
       within_xs = omega arith;
       within_ys = omega arith;
       room_left = omega arith;

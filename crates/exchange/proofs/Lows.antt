@@ -18,15 +18,12 @@ use Rattle.shape.proofs.Scanned.{row_length}
 -- ---- at most 16,383
 
 pub low_parts : (x : ℕ) (xs : List ℕ) → low (x ∷ xs) ≡ true → (x ≤ 16383) × (low xs ≡ true)
-unfolding low
 low_parts x xs e = let t = and_iff.0 e in (leb-true x 16383 t.0, t.1)
 
 pub low_more : (x : ℕ) (xs : List ℕ) → x ≤ 16383 → low xs ≡ true → low (x ∷ xs) ≡ true
-unfolding low
 low_more x xs h e = ap (λ (b : Bool). b && low xs) (le-leb x 16383 h) ∙ e
 
 pub low_none : low [] ≡ true
-unfolding low
 low_none = refl
 
 -- ... in plain logic

@@ -1,24 +1,25 @@
 -- A file of points: what it is that the reader takes, and how code that goes part by part comes to the answer. Assumes nothing.
 use Prim.Native.Nat.{ℕ, ◌+◌, ◌*◌, ◌-◌, ◌<◌, ◌≤◌}
-use mathlib.Core.Path.{◌≡◌, refl, sym, ap, ◌∙◌}
-use mathlib.Core.Bool.{Bool, false, not, ◌||◌}
+use mathlib.Core.Path.{◌≡◌, refl, sym, ap, ap₂, ◌∙◌, subst}
+use mathlib.Core.Bool.{true, ◌||◌}
 use mathlib.Core.Logic.{◌⊎◌, inl, inr}
 use mathlib.Core.List.{List, [], ◌∷◌}
 use native.Mathlib.Omega.{arith}
-use borrow.Author.Tests.{eqb-true, not-false}
+use borrow.Author.Tests.{eq-eqb, ne_eqb}
 use lib.Dec.{leb, eqb}
 use lib.ListN.{length}
 use Rattle.laws.proofs.Test.{or_iff}
+use Rattle.shape.specs.declared.block.ByteOrder.{ByteOrder}
+use Rattle.shape.specs.Bytes.{code, order_of, number_at}
 use Rattle.shape.specs.Answers.{Question, must, Answer, gives, refused, asked}
+use Rattle.shape.specs.declared.Coordinate.{Coordinate}
+use Rattle.shape.specs.Coordinates.{coordinate_at, ended, whole}
 use Rattle.shape.specs.Reading.{run, coordinates, size_asks, order_at, type_asks}
-use Rattle.shape.proofs.Asking.{fault, stops_above, passes_below, ends, passes_all, refused_other, gives_other, given_is}
+use Rattle.shape.proofs.Asking.{fault, stops, passes, stops_above, passes_below, ends, passes_all, stops_first, refused_other, gives_other, given_is}
 use Rattle.shape.proofs.Scanned.{ran}
 use Rattle.shape.proofs.Heads.{passed_both, ran_there, coordinates_there}
-use Rattle.shape.proofs.Shapes.{typed, sized}
-use Rattle.exchange.specs.declared.Surveyed.{Surveyed}
-use Rattle.exchange.specs.declared.Surveyed.TheVariants.{Points}
-use Rattle.exchange.specs.Replies.{surveyed}
-use Rattle.exchange.specs.Points.{point_count, points_end, point_asks, points_head_asks, points_asks, points_answer, within}
+use Rattle.shape.proofs.Shapes.{typed, sized, order_is}
+use Rattle.exchange.specs.Points.{point_count, points_end, point_asks, points_head_asks, points_asks, points_answer, within, sent_answer, order_of as sent_order}
 use Rattle.exchange.specs.PointRefusals.{GoodPointsHead}
 
 -- ---- Points
@@ -28,6 +29,10 @@ point_there s at e =
     let q = passed_both (type_asks s at 1 33) (coordinates 2 (order_at s at) s (at + 5)) (tt {0}) (tt {0}) e in
     let l = coordinates_there 2 (order_at s at) s (at + 5) (typed s at 1 33 q.0).1 q.1 in
     omega arith
+
+-- ... and its byte order is one of the two
+pub point_ordered : (s : List ℕ) (at : ℕ) → gives tt ≡ fault (point_asks s at) → order_at s at ≤ 1
+point_ordered s at e = (typed s at 1 33 (passed_both (type_asks s at 1 33) (coordinates 2 (order_at s at) s (at + 5)) (tt {0}) (tt {0}) e).0).0.1
 
 -- ---- the head
 
@@ -41,6 +46,25 @@ module _ (s : List ℕ) (room : ℕ) where
 
     pub size_passed : gives tt ≡ fault sizes → gives (point_count s) ≡ asked (points_head_asks s room) (point_count s)
     size_passed e = passes_all (type_asks s 0 4 22) sizes tt (point_count s) g (gives_other sizes tt (point_count s) tt e refl)
+
+  -- ... as the code finds it: the byte order, then the count; a fault of the head is the file's
+  then_file : {x : Answer ℕ} {n p : ℕ} → refused n p ≡ asked (points_head_asks s room) (point_count s) → x ≡ refused n p → x ≡ asked (points_asks s room) (point_count s)
+  then_file {x} {n} {p} e h = stops_first (points_head_asks s room) (run 21 (point_asks s) (point_count s) 9) (point_count s) (point_count s) n p e h
+
+  pub type_refused : {x : Answer ℕ} {n p : ℕ} → refused n p ≡ asked (type_asks s 0 4 22) (order_of (order_at s 0)) → x ≡ refused n p
+      → x ≡ asked (points_asks s room) (point_count s)
+  type_refused {x} {n} {p} e h = then_file (stops_first (type_asks s 0 4 22) sizes (order_of (order_at s 0)) (point_count s) n p e refl) h
+
+  module _ {order : ByteOrder} (found : gives order ≡ asked (type_asks s 0 4 22) (order_of (order_at s 0))) where
+    sizes_are : asked (size_asks 0 (code order) s 5 room) (number_at 4 (code order) s 5) ≡ asked sizes (point_count s)
+    sizes_are = ap (λ (o : ℕ). asked (size_asks 0 o s 5 room) (number_at 4 o s 5)) (order_is s 0 4 22 found)
+
+    pub count_refused : {x : Answer ℕ} {n p : ℕ} → refused n p ≡ asked (size_asks 0 (code order) s 5 room) (number_at 4 (code order) s 5) → x ≡ refused n p
+        → x ≡ asked (points_asks s room) (point_count s)
+    count_refused e h = then_file (passes_all (type_asks s 0 4 22) sizes (order_of (order_at s 0)) (point_count s) found (e ∙ sizes_are)) h
+
+    pub count_found : {n : ℕ} → gives n ≡ asked (size_asks 0 (code order) s 5 room) (number_at 4 (code order) s 5) → gives n ≡ asked (points_head_asks s room) (point_count s)
+    count_found e = passes_all (type_asks s 0 4 22) sizes (order_of (order_at s 0)) (point_count s) found (e ∙ sizes_are)
 
 -- a head that was read: its count is m
 module _ (s : List ℕ) (room m : ℕ) (answer : gives m ≡ asked (points_head_asks s room) (point_count s)) where
@@ -100,13 +124,9 @@ points_good s room n e =
       whole = omega arith;
     }
 
--- what a call found, for lists whose lesser length is m
-module _ (s : List ℕ) (found : Surveyed) (r m : ℕ) (answer : surveyed found ≡ asked (points_asks s r) (point_count s)) (is : r ≡ m) where
-  pub found_answer : surveyed found ≡ asked (points_asks s m) (point_count s)
-  found_answer = answer ∙ ap (λ (k : ℕ). asked (points_asks s k) (point_count s)) is
-
-  pub found_points : (n : ℕ) → found ≡ Points n → gives n ≡ asked (points_asks s m) (point_count s)
-  found_points n e = sym (ap surveyed e) ∙ found_answer
+-- what was asked of one room, and that is another
+pub for_room : {x : Answer ℕ} {room other : ℕ} (s : List ℕ) → room ≡ other → x ≡ asked (points_asks s room) (point_count s) → x ≡ asked (points_asks s other) (point_count s)
+for_room s is e = e ∙ ap (λ (k : ℕ). asked (points_asks s k) (point_count s)) is
 
 module _ (s : List ℕ) (room n : ℕ) (answer : gives n ≡ asked (points_asks s room) (point_count s)) where
   is : n ≡ point_count s
@@ -118,18 +138,47 @@ module _ (s : List ℕ) (room n : ℕ) (answer : gives n ≡ asked (points_asks 
   then_end : {x : Answer ℕ} → x ≡ asked (must (leb (length s) (points_end s)) 28 (points_end s) ∷ []) (point_count s) → x ≡ points_answer s room
   then_end e = passes_all (points_asks s room) _ (point_count s) (point_count s) (ap gives (sym is) ∙ answer) e
 
-  pub bytes_left : {x : Answer ℕ} → 9 + 21 * n < length s → x ≡ refused 28 (9 + 21 * n) → x ≡ points_answer s room
-  bytes_left h e = then_end (stops_above (length s) (points_end s) 28 (points_end s) [] (point_count s) (omega (arith, end_is)) (e ∙ ap (refused 28) end_is))
+  pub bytes_left : {x : Answer ℕ} {k p : ℕ} → refused k p ≡ asked (ended s (9 + 21 * n) ∷ []) (tt {0}) → x ≡ refused k p → x ≡ points_answer s room
+  bytes_left {x} {k} {p} e h =
+      then_end (refused_other (ended s (points_end s) ∷ []) (tt {0}) (point_count s) k p (e ∙ ap (λ (m : ℕ). asked (ended s m ∷ []) (tt {0})) end_is) h)
 
   pub all_read : length s ≤ 9 + 21 * n → gives n ≡ points_answer s room
   all_read h = then_end (passes_below (length s) (points_end s) 28 (points_end s) [] (point_count s) (omega (arith, end_is)) (ends (point_count s) (ap gives is)))
 
--- ---- the place of a coordinate
+-- ---- the coordinate at a place, as the code finds it: w is how far the place lies within its Point
 
--- a test that found one there: r is its answer
-pub coordinate_there : {r : Bool} (place : ℕ) → r ≡ (eqb (within place) 5 || eqb (within place) 13) → not r ≡ false → (within place ≡ 5) ⊎ (within place ≡ 13)
-coordinate_there {r} place is e = elim ((or_iff {a = eqb (within place) 5} {b = eqb (within place) 13}).0 (sym is ∙ not-false r e)) [ inl q ↦ inl (eqb-true _ _ q) | inr q ↦ inr (eqb-true _ _ q) ]
+module _ (s : List ℕ) (place : ℕ) {w : ℕ} (is : w ≡ within place) where
+  pub no_coordinate : {x : Answer Coordinate} → (w ≡ 5 → ⊥) → (w ≡ 13 → ⊥) → x ≡ refused 20 place → x ≡ sent_answer s place
+  no_coordinate f g e =
+      stops (eqb (within place) 5 || eqb (within place) 13) 20 place _ _
+      (ap₂ ◌||◌ (ne_eqb (within place) 5 (λ q. f (is ∙ q))) (ne_eqb (within place) 13 (λ q. g (is ∙ q)))) e
 
-pub past_head : (place : ℕ) → (within place ≡ 5) ⊎ (within place ≡ 13) → 9 ≤ place
-past_head place (inl e) = omega arith
-past_head place (inr e) = omega arith
+  module _ (either : (w ≡ 5) ⊎ (w ≡ 13)) where
+    abbrev own : ℕ
+    own = order_at s (place - w)
+
+    found_there : (eqb (within place) 5 || eqb (within place) 13) ≡ true
+    found_there = or_iff.1 (elim either [ inl q ↦ inl (eq-eqb (within place) 5 (sym is ∙ q)) | inr q ↦ inr (eq-eqb (within place) 13 (sym is ∙ q)) ])
+
+    own_is : own ≡ sent_order s place
+    own_is = ap (λ (k : ℕ). order_at s (place - k)) is
+
+    pub not_whole : {x : Answer Coordinate} {n p : ℕ} → refused n p ≡ asked (whole 8 s place ∷ []) (tt {0}) → x ≡ refused n p → x ≡ sent_answer s place
+    not_whole {x} {n} {p} e h =
+        passes (eqb (within place) 5 || eqb (within place) 13) 20 place _ _ found_there
+        (stops_first (whole 8 s place ∷ []) (must (leb (sent_order s place) 1) 20 place ∷ []) (tt {0}) (coordinate_at (sent_order s place) s place) n p e h)
+
+    module _ (long : place + 8 ≤ length s) where
+      then_order : {x : Answer Coordinate} → x ≡ asked (must (leb (sent_order s place) 1) 20 place ∷ []) (coordinate_at (sent_order s place) s place) → x ≡ sent_answer s place
+      then_order e =
+          passes (eqb (within place) 5 || eqb (within place) 13) 20 place _ _ found_there
+          (passes_below (place + 8) (length s) 20 place _ _ long e)
+
+      pub no_order : {x : Answer Coordinate} → 1 < own → x ≡ refused 20 place → x ≡ sent_answer s place
+      no_order h e = then_order (stops_above (sent_order s place) 1 20 place _ _ (subst (λ (k : ℕ). 1 < k) own_is h) e)
+
+      pub sent_found : {c : Coordinate} {o : ℕ} → o ≡ own → own ≤ 1 → c ≡ coordinate_at o s place → gives c ≡ sent_answer s place
+      sent_found f h e =
+          then_order
+          (passes_below (sent_order s place) 1 20 place _ _ (subst (λ (k : ℕ). k ≤ 1) own_is h)
+          (ends (coordinate_at (sent_order s place) s place) (ap gives (e ∙ ap (λ (k : ℕ). coordinate_at k s place) (f ∙ own_is)))))

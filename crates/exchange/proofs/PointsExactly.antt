@@ -10,7 +10,7 @@ use lib.ListN.{length}
 use Rattle.shape.specs.Answers.{Question, must, gives, refused, asked}
 use Rattle.shape.specs.Reading.{run, coordinate_asks, coordinates, size_asks, order_at, type_asks}
 use Rattle.shape.specs.Refusals.{Good, Bad}
-use Rattle.shape.proofs.Asking.{fault, passes_all, stops_first, refused_other, ask_cases, part_cases}
+use Rattle.shape.proofs.Asking.{stops_above, fault, passes_all, stops_first, refused_other, ask_cases, part_cases}
 use Rattle.shape.proofs.Heads.{passed_one, passed_all, passed_both}
 use Rattle.shape.proofs.Runs.{nothing_left, Exact, coordinate_exact, steps, all_fine, fine_all, first_bad, bad_first}
 use Rattle.shape.proofs.Shapes.{typed, typed_passes, type_fault, type_refuses, sized_passes, size_fault, size_refuses}
@@ -132,7 +132,7 @@ module _ (s : List ℕ) (room : ℕ) where
       stops_first (points_asks s room) last_question m m n p
       (point_refused s room m (head_given h.0) n p
       (bad_first (point_asks s) (steps 21 (point_asks s)) (GoodPoint s) (PointFault s) (point_exact s) i m 9 n p l h.1 f)) refl
-  refused_from (left_over h l) = bytes_left s room m (points_given h) l refl
+  refused_from (left_over h l) = bytes_left s room m (points_given h) (stops_above (length s) (points_end s) 28 (points_end s) [] (tt {0}) l refl) refl
 
 -- THE READER REFUSES with a number and a place exactly when that is the file's first fault
 pub points_refused_exactly : (s : List ℕ) (room number place : ℕ) → (points_answer s room ≡ refused number place) ↔ PointsFault s room number place

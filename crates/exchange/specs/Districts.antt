@@ -1,6 +1,7 @@
 -- Document 02, 3/13, one file for a whole district: a MultiPolygon is a byte order, type 6, a count of 1 to 32, and that many complete Polygons,
 -- each with its own byte order. Rings come one after another in one pair of lists, with a list of their lengths. Assumes nothing.
-use Rattle.std.specs.Prelude.{ℕ, zero, suc, ◌+◌, ◌*◌, ◌-◌, Bool, true, ◌&&◌, List, [], ◌∷◌, ◌++◌, eqb, leb, length, take, drop, replicate}
+use Rattle.std.specs.Prelude.{ℕ, zero, suc, ◌+◌, ◌*◌, ◌-◌, Bool, ◌&&◌, List, [], ◌∷◌, ◌++◌, eqb, leb, length, take, drop, replicate}
+use Rattle.std.specs.List.{list_all}
 use Rattle.shape.specs.Answers.{Question, must, Answer, asked}
 use Rattle.shape.specs.Bytes.{number_at, in_order}
 use Rattle.shape.specs.Coordinates.{whole}
@@ -31,9 +32,8 @@ total [] = 0
 total (n ∷ lengths) = n + total lengths
 
 -- each ring has 3 to 1,024 positions
-unfoldable pub rings : List ℕ → Bool
-rings [] = true
-rings (n ∷ lengths) = (leb 3 n && leb n 1024) && rings lengths
+abbrev pub rings : List ℕ → Bool
+rings = list_all (λ n. leb 3 n && leb n 1024)
 
 -- its bytes: 9 of the head, 29 for each ring and 16 for each position
 abbrev pub district_size : List ℕ → ℕ

@@ -1,5 +1,4 @@
 -- The definitions that the promises of exchange cite, besides those of shape.
-pub mod Replies
 pub mod Points
 pub mod PointRefusals
 pub mod Districts

@@ -1,7 +1,32 @@
 -- Questions asked in order: what an answer says of them, and how code that asks them one by one comes to it. Assumes nothing.
-use Rattle.std.proofs.Common.{◌≡◌, ℕ, ◌-◌, ◌<◌, ◌≤◌, Bool, true, false, cond, not, ◌&&◌, eqb, leb, List, [], ◌∷◌, ◌++◌, length, drop, sym, refl, ap, ◌∙◌, subst, append-nil, rules, eq-eqb, ne_eqb, le-leb, leb-true}
+use Rattle.std.proofs.Common.{◌≡◌, ℕ, ◌-◌, ◌<◌, ◌≤◌, Bool, true, false, cond, not, ◌&&◌, eqb, leb, List, [], ◌∷◌, ◌++◌, length, drop, sym, refl, ap, ap₂, ◌∙◌, subst, append-nil, rules, eq-eqb, ne_eqb, le-leb, leb-true}
 use borrow.Author.Tests.{lt-leb, not-true, not-false}
-use Rattle.shape.specs.Answers.{Question, must, Answer, gives, refused, asked, over}
+use Rattle.sheet.specs.declared.refusal.Rule.{Rule}
+use Rattle.sheet.specs.declared.refusal.Refusal.{Refusal}
+use Rattle.sheet.specs.Refusal.{number}
+use Rattle.std.specs.Prelude.{Result, Ok, Err}
+use Rattle.std.specs.Result.{IsErrAnd, MatchResult}
+use Rattle.std.proofs.lemmas.Result.{err_from_is_err_and}
+use Rattle.shape.specs.Answers.{Question, must, Answer, gives, refused, asked, over, reply}
+
+-- what a broken rule is refused with
+pub refuses : {A : Type 0} {r : Refusal} {rule : Rule} {place : ℕ} → (r.rule ≡ rule) × (r.place ≡ place)
+    → ◌≡◌ {A = Answer A} (refused (number r.rule) r.place) (refused (number rule) place)
+refuses e = ap₂ (λ k p. refused (number k) p) e.0 e.1
+
+-- what a `?` hands on
+pub hands_on : {A : Type 0} (r : Result A Refusal) (e : Refusal) → IsErrAnd r (λ y. y ≡ e) → reply r ≡ refused (number e.rule) e.place
+hands_on r e h = let p = err_from_is_err_and r h in rw (p.1, p.2)
+
+-- a rule that breaks at a place, as `map_err` puts it there
+abbrev pub at_place : {A : Type 0} → ℕ → Result A Rule → Answer A
+at_place place (Ok a) = gives a
+at_place place (Err rule) = refused (number rule) place
+
+pub maps : {A : Type 0} {P : Rule → Refusal → Type 0} (r : Result A Rule) (q : Result A Refusal) (place : ℕ) → MatchResult r (λ a. q ≡ Ok a) (λ rule. IsErrAnd q (P rule))
+    → ((rule : Rule) (f : Refusal) → P rule f → (f.rule ≡ rule) × (f.place ≡ place)) → reply q ≡ at_place place r
+maps (Ok a) q place h k = ap reply h
+maps (Err rule) q place h k = let p = err_from_is_err_and q h in ap reply p.1 ∙ refuses (k rule p.0 p.2)
 
 -- ---- one question after another
 
@@ -68,7 +93,7 @@ module _ {A : Type 0} {x : Answer A} {r : ℕ} (m d n k p : ℕ) (qs : List Ques
 pub is_below : {r : Bool} (m n : ℕ) → r ≡ leb m n → not r ≡ false → m ≤ n
 is_below {r} m n is e = leb-true m n (sym is ∙ not-false r e)
 
-pub ruleset asking = (stops_call, passes_call, stops_above, passes_below, stops_other, passes_same, stops_under, stops_over, passes_between, stops_less, passes_less, ends, is_below, rules)
+pub ruleset asking = (refuses, stops_call, passes_call, stops_above, passes_below, stops_other, passes_same, stops_under, stops_over, passes_between, stops_less, passes_less, ends, is_below, rules)
 
 -- ---- questions in two parts
 
@@ -92,7 +117,7 @@ asked_both (q ∷ ps) qs a b = go q.holds (asked_both ps qs a b)
 
 -- all of the first part hold: the second decides; one fails: its refusal stands
 module _ {A B : Type 0} {x : Answer B} (ps qs : List Question) (a : A) (b : B) where
-  pub passes_all : gives a ≡ asked ps a → x ≡ asked qs b → x ≡ asked (ps ++ qs) b
+  pub passes_all : {c : A} → gives c ≡ asked ps a → x ≡ asked qs b → x ≡ asked (ps ++ qs) b
   passes_all h e = e ∙ ap (λ (y : Answer A). and_then y (asked qs b)) h ∙ sym (asked_both ps qs a b)
 
   pub stops_first : (k p : ℕ) → refused k p ≡ asked ps a → x ≡ refused k p → x ≡ asked (ps ++ qs) b

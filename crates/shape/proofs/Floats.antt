@@ -3,7 +3,7 @@ use Rattle.std.proofs.Common.{◌≡◌, ℕ, zero, suc, ◌+◌, ◌-◌, ◌*�
 use Prim.Native.Nat.{compare}
 use lib.Ieee.{Format, prec, emax, low, Float, nan, inf, fin, binary64, up, down, lt, fits, is_nan, nan_bits, to_bits, of_bits, of_int, in_unsigned, in_float, to_unsigned, whole, odd, units, round, size, nearest}
 use lib.Ieee.Fits.{and_r, round_is, of_int-fits, eq→eqb, down_pos}
-use lib.Ieee.Bits.{of_bits-to_bits, nan_bits_is}
+use lib.Ieee.Bits.{of_bits-to_bits}
 use lib.Ieee.Back.{unsigned_back, Float-back_unsigned}
 
 pub same_test : (a b : Bool) → (T a → T b) → (T b → T a) → a ≡ b
@@ -98,12 +98,6 @@ part_lt (fin false m e) t =
     let q : m * up e / down e < 2 ^ 14 = (div-lt_iff_lt-mul (down_pos e)).1 (rw mul-one at p) in
     omega arith
 
-pub lt_no_nan : (x y : Float) → T (lt x y) → T (not (is_nan x))
-unfolding lt is_nan
-lt_no_nan nan y t = t
-lt_no_nan (inf s) y t = tt
-lt_no_nan (fin s m e) y t = tt
-
 -- the comparison of the two patterns
 pub patterns : (x : Float) → T (fits binary64 x) → T (lt x (fin false 1 (pos 14)))
     → eqb (to_bits binary64 (of_int binary64 (pos (to_unsigned 64 x)))) (to_bits binary64 x) ≡ in_unsigned binary64 14 x
@@ -142,13 +136,3 @@ round_no_nan f s num den =
 pub number_no_nan : (n : ℕ) → T (not (is_nan (of_int binary64 (pos n))))
 unfolding of_int
 number_no_nan n = round_no_nan binary64 false n 1
-
-only_nan : (x : Float) → T (is_nan x) → x ≡ nan
-unfolding is_nan
-only_nan nan t = refl
-only_nan (inf s) t = absurd t
-only_nan (fin s m e) t = absurd t
-
--- a NaN's pattern
-pub nan_of : (b : ℕ) → nan_bits binary64 b ≡ true → of_bits binary64 b ≡ nan
-nan_of b e = only_nan (of_bits binary64 b) (holds (sym (nan_bits_is binary64 b) ∙ e))

@@ -1,11 +1,11 @@
 -- What an answer says of the questions: each that was passed holds; a head that was read, and positions that were scanned. Assumes nothing.
-use Rattle.std.proofs.Common.{◌≡◌, ℕ, zero, suc, ◌+◌, ◌-◌, ◌*◌, ◌≤◌, Bool, true, false, cond, ◌&&◌, eqb, leb, List, [], ◌∷◌, ◌++◌, length, sym, refl, ap, ◌∙◌, arith, eq-eqb, eqb-true, le-leb, leb-true}
+use Rattle.std.proofs.Common.{◌≡◌, ℕ, zero, suc, ◌+◌, ◌-◌, ◌*◌, ◌<◌, ◌≤◌, Bool, true, false, cond, ◌&&◌, eqb, leb, List, [], ◌∷◌, ◌++◌, length, sym, refl, ap, ◌∙◌, arith, eq-eqb, eqb-true, le-leb, leb-true}
 use Rattle.laws.proofs.Test.{and_iff}
 use Rattle.shape.specs.Answers.{Question, must, gives, refused, asked}
 use Rattle.shape.specs.Bytes.{number_at}
-use Rattle.shape.specs.Coordinates.{coordinate_at, is_on_grid}
-use Rattle.shape.specs.Reading.{run, coordinate_asks, coordinates, count, count_asks, order_at, type_asks, length_at, head_asks}
-use Rattle.shape.proofs.Asking.{passes, passes_below, ends, passes_all, gives_other, fault}
+use Rattle.shape.specs.Coordinates.{coordinate_at, is_on_grid, ended}
+use Rattle.shape.specs.Reading.{run, coordinate_asks, coordinates, count, order_at, length_at, head_asks}
+use Rattle.shape.proofs.Asking.{passes, passes_below, ends, fault}
 use Rattle.shape.proofs.Scanned.{ran, scanned}
 
 module _ {A : Type 0} {b : A} where
@@ -17,6 +17,10 @@ module _ {A : Type 0} {b : A} where
   pub passed_all : (a : A) → gives b ≡ asked [] a → b ≡ a
   unfolding asked
   passed_all a e = cc
+
+-- nothing is left past an end
+pub none_left : (s : List ℕ) (end : ℕ) → gives (tt {0}) ≡ asked (ended s end ∷ []) (tt {0}) → length s ≤ end
+none_left s end e = leb-true (length s) end (passed_one (leb (length s) end) 28 end [] (tt {0}) e).0
 
 -- both parts were passed
 pub passed_both : {A B : Type 0} {b : B} (ps qs : List Question) (a : A) (c : B) → gives b ≡ asked (ps ++ qs) c → (gives a ≡ asked ps a) × (gives b ≡ asked qs c)
@@ -91,13 +95,6 @@ head_answer s at room n h =
     (passes_below (m - 1) room _ _ _ _ (omega (arith, h.counted, h.fits))
     (ends (m - 1) (ap gives is))))))))))
 
--- the two parts of a head, passed one after the other
-pub head_passed : (s : List ℕ) (at room : ℕ) → gives tt ≡ fault (type_asks s at 3 22) → gives tt ≡ fault (count_asks (order_at s at) s at room)
-    → gives (length_at s at) ≡ asked (head_asks s at room) (length_at s at)
-head_passed s at room g f =
-    passes_all (type_asks s at 3 22) (count_asks (order_at s at) s at room) tt (length_at s at) g
-    (gives_other (count_asks (order_at s at) s at room) tt (length_at s at) tt f refl)
-
 -- ---- coordinates that were passed
 
 pub coordinate_passed : {A : Type 0} {b : A} (k order : ℕ) (s : List ℕ) (at : ℕ) (a : A) → gives b ≡ asked (coordinates (suc k) order s at) a
@@ -117,6 +114,17 @@ ran_there step asks s each (suc k) at h e =
     let q = passed_both (asks at) (run step asks k (at + step)) tt tt e in
     let r : at + step + step * k ≤ length s = ran_there step asks s each k (at + step) (each at q.0) q.1 in
     omega arith
+
+-- ... and each of them was
+pub ran_each : (step : ℕ) (asks : ℕ → List Question) (n at : ℕ) → gives tt ≡ ran step asks n at → (i : ℕ) → i < n → gives tt ≡ fault (asks (at + step * i))
+unfolding run
+ran_each step asks zero at e i h = absurd (omega arith)
+ran_each step asks (suc n) at e zero h =
+    let f : at ≡ at + step * 0 = omega arith in
+    (passed_both (asks at) (run step asks n (at + step)) (tt {0}) (tt {0}) e).0 ∙ ap (λ (p : ℕ). fault (asks p)) f
+ran_each step asks (suc n) at e (suc i) h =
+    let f : at + step + step * i ≡ at + step * suc i = omega arith in
+    ran_each step asks n (at + step) (passed_both (asks at) (run step asks n (at + step)) (tt {0}) (tt {0}) e).1 i (omega arith) ∙ ap (λ (p : ℕ). fault (asks p)) f
 
 pub coordinates_there : (k order : ℕ) (s : List ℕ) (at : ℕ) → at ≤ length s → gives tt ≡ scanned k order s at → at + 8 * k ≤ length s
 coordinates_there k order s at h e =

@@ -1,12 +1,13 @@
 -- What a float is as a coordinate, and the two laws of judging and writing: a grid number's pattern is judged as that number, and a pattern
 -- that is judged as a grid number is that number's. Assumes nothing.
 use Rattle.std.proofs.Common.{◌≡◌, ℕ, ◌^◌, ◌<◌, ◌≤◌, Bool, true, false, cond, ◌&&◌, T, ◌⊎◌, ◌↔◌, ℤ, pos, sym, refl, ap, ◌∙◌, subst, inl, inr, arith}
-use lib.Ieee.{Float, nan, inf, fin, binary64, lt, fits, to_bits, of_bits, of_int, in_unsigned, to_unsigned, whole}
+use lib.Ieee.{Float, nan, inf, fin, binary64, fits, to_bits, of_bits, of_int, in_unsigned, to_unsigned, whole}
 use lib.Ieee.Fits.{of_int-fits}
 use lib.Ieee.Bits.{of_bits-to_bits, to_bits-of_bits, of_bits-fits}
+use Rattle.std.specs.Float.{float_is_finite}
 use Rattle.shape.specs.declared.Coordinate.TheVariants.{Grid, OffGrid, NotFinite}
 use Rattle.shape.specs.Coordinates.{coordinate, encode}
-use Rattle.shape.proofs.Floats.{holds, fails, comes_back, finite_no_nan, is_number, cut_lt}
+use Rattle.shape.proofs.Floats.{comes_back, finite_no_nan, is_number, cut_lt}
 
 -- the judgement of a float on the grid
 pub judged_grid : (x : Float) → T (in_unsigned binary64 14 x) → coordinate x ≡ Grid (to_unsigned 14 x)
@@ -19,24 +20,17 @@ judged_grid (fin s m e) t = go (in_unsigned binary64 14 (fin s m e)) t
     go false u = absurd u
 
 -- ... of a finite one off it, and of the others
-pub judged_off : (x : Float) → in_unsigned binary64 14 x ≡ false → lt (inf true) x ≡ true → lt x (inf false) ≡ true → OffGrid x ≡ coordinate x
-unfolding lt
-judged_off nan g a b = absurd (holds b)
-judged_off (inf true) g a b = absurd (holds a)
-judged_off (inf false) g a b = absurd (holds b)
-judged_off (fin s m e) g a b = sym (ap (λ (t : Bool). cond t (Grid (to_unsigned 14 (fin s m e))) (OffGrid (fin s m e))) g)
+pub judged_off : (x : Float) → in_unsigned binary64 14 x ≡ false → float_is_finite x ≡ true → OffGrid x ≡ coordinate x
+unfolding float_is_finite
+judged_off nan g a = cc
+judged_off (inf s) g a = cc
+judged_off (fin s m e) g a = sym (ap (λ (t : Bool). cond t (Grid (to_unsigned 14 (fin s m e))) (OffGrid (fin s m e))) g)
 
-pub judged_high : (x : Float) → lt x (inf false) ≡ false → NotFinite ≡ coordinate x
-unfolding lt
-judged_high nan b = refl
-judged_high (inf s) b = refl
-judged_high (fin s m e) b = absurd (fails b tt)
-
-pub judged_low : (x : Float) → lt (inf true) x ≡ false → NotFinite ≡ coordinate x
-unfolding lt
-judged_low nan b = refl
-judged_low (inf s) b = refl
-judged_low (fin s m e) b = absurd (fails b tt)
+pub judged_infinite : (x : Float) → float_is_finite x ≡ false → NotFinite ≡ coordinate x
+unfolding float_is_finite
+judged_infinite nan b = refl
+judged_infinite (inf s) b = refl
+judged_infinite (fin s m e) b = cc
 
 -- ---- the two laws of judging and writing
 

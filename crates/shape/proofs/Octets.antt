@@ -1,71 +1,72 @@
 -- Numbers and their bytes: a run of bytes as a list that is written out, and runs of stores. Assumes nothing.
-use Rattle.std.proofs.Common.{◌≡◌, ℕ, zero, suc, ◌+◌, ◌*◌, ◌/◌, ◌<◌, ◌≤◌, Bool, true, false, eqb, List, [], ◌∷◌, ◌++◌, reverse, length, get_or, take, drop, sym, refl, ap, ◌∙◌, add-zero, add-suc, arith, drop-cons}
-use lib.Seq.{sets}
-use Rattle.laws.proofs.Put.{sets-append, put_next}
-use Rattle.shape.specs.Bytes.{low_first, low_bytes, turned, number_at}
+use Rattle.std.proofs.Common.{◌≡◌, ℕ, zero, suc, ◌+◌, ◌-◌, ◌/◌, ◌%◌, ◌^◌, ◌≤◌, List, ◌∷◌, ◌++◌, length, take, drop, sym, refl, ap, ap₂, ◌∙◌, append_assoc, arith, length-append, w32, w64}
+use Rattle.std.specs.Int.{byte_at, bytes_low_first, to_le_bytes}
+use Rattle.std.proofs.Math.Nat.{div-div-eq-div-mul, pow-suc}
+use borrow.Rule.Slice.PartMut.{put_mid}
+use Rattle.std.proofs.lemmas.List.{drop-drop}
+use lib.Seq.{sets, sets-eq, length-sets}
+use Rattle.laws.proofs.Put.{sets-append}
+use Rattle.shape.specs.Bytes.{low_bytes}
 
--- ---- reading
+-- bytes that were put into a part that was lent, `out[at..at + k]`
+pub put_bytes : {new bytes : List ℕ} (out : List ℕ) (at k : ℕ) → new ≡ bytes → length bytes ≡ k → at + k ≤ length out → put_mid at k out new ≡ sets out at bytes
+put_bytes {new} {bytes} out at k e len h =
+    let there : at + length bytes ≤ length out = omega arith in
+    let past : at + k ≡ at + length bytes = omega arith in
+    ap (put_mid at k out) e
+    ∙ ap (λ (l : List ℕ). take at out ++ (bytes ++ l)) (drop-drop k at out ∙ ap (λ (n : ℕ). drop n out) past)
+    ∙ sym (append_assoc (take at out) bytes (drop (at + length bytes) out)) ∙ sym (sets-eq bytes out at there)
 
--- k bytes from at + j on, one by one
-abbrev pub bytes_from : ℕ → List ℕ → ℕ → ℕ → List ℕ
-bytes_from zero s at j = []
-bytes_from (suc k) s at j = get_or s (at + j) 0 ∷ bytes_from k s at (suc j)
-
-pub run : (k : ℕ) (s : List ℕ) (at j : ℕ) → at + j + k ≤ length s → take k (drop (at + j) s) ≡ bytes_from k s at j
-run zero s at j h = refl
-run (suc k) s at j h =
-    let i : at + j < length s = omega arith in
-    let r : at + suc j + k ≤ length s = omega arith in
-    ap (take (suc k)) (drop-cons s (at + j) 0 i)
-    ∙ ap (λ (n : ℕ). get_or s (at + j) 0 ∷ take k (drop n s)) (sym (add-suc at j))
-    ∙ ap (λ (l : List ℕ). get_or s (at + j) 0 ∷ l) (run k s at (suc j) r)
-
--- a run from `at` itself
-run0 : (k : ℕ) (s : List ℕ) (at : ℕ) → at + k ≤ length s → take k (drop at s) ≡ bytes_from k s at 0
-run0 k s at h = ap (λ (n : ℕ). take k (drop n s)) (sym (add-zero at)) ∙ run k s at 0 (omega arith)
-
-pub high4 : (s : List ℕ) (at order : ℕ) → at + 4 ≤ length s → order ≡ 0
-    → number_at 4 order s at ≡ get_or s (at + 3) 0 + 256 * (get_or s (at + 2) 0 + 256 * (get_or s (at + 1) 0 + 256 * get_or s at 0))
-high4 s at order h e =
-    ap (λ (o : ℕ). number_at 4 o s at) e
-    ∙ ap (λ (l : List ℕ). low_first (reverse l)) (run0 4 s at h)
-    ∙ rw (add-zero at) (omega arith)
-
-pub low4 : (s : List ℕ) (at order : ℕ) → at + 4 ≤ length s → eqb order 0 ≡ false
-    → number_at 4 order s at ≡ get_or s at 0 + 256 * (get_or s (at + 1) 0 + 256 * (get_or s (at + 2) 0 + 256 * get_or s (at + 3) 0))
-low4 s at order h e =
-    ap (λ (b : Bool). low_first (turned b (take 4 (drop at s)))) e
-    ∙ ap low_first (run0 4 s at h)
-    ∙ rw (add-zero at) (omega arith)
-
-pub high8 : (s : List ℕ) (at order : ℕ) → at + 8 ≤ length s → order ≡ 0
-    → number_at 4 order s at * 4294967296 + number_at 4 order s (at + 4) ≡ number_at 8 order s at
-high8 s at order h e =
-    let o : eqb order 0 ≡ true = ap (λ (n : ℕ). eqb n 0) e in
-    rw (o, run0 4 s at (omega arith), run 4 s at 4 (omega arith), run0 8 s at h) (omega arith)
-
-pub low8 : (s : List ℕ) (at order : ℕ) → at + 8 ≤ length s → eqb order 0 ≡ false
-    → number_at 4 order s (at + 4) * 4294967296 + number_at 4 order s at ≡ number_at 8 order s at
-low8 s at order h o = rw (o, run0 4 s at (omega arith), run 4 s at 4 (omega arith), run0 8 s at h) (omega arith)
-
--- ---- writing
-
-pub put_eight : (out : List ℕ) (at n : ℕ) → sets (sets out at (low_bytes 4 n)) (at + 4) (low_bytes 4 (n / 4294967296)) ≡ sets out at (low_bytes 8 n)
+-- the library's bytes of a number, from the i-th upward
+bytes_from : (i k n m : ℕ) → m ≡ n / 256 ^ i → bytes_low_first i k n ≡ low_bytes k m
 unfolding low_bytes
-put_eight out at n =
-    let q : n / 4294967296 ≡ n / 256 / 256 / 256 / 256 = omega arith in
-    ap (λ (m : ℕ). sets (sets out at (low_bytes 4 n)) (at + 4) (low_bytes 4 m)) q ∙ sym (sets-append (low_bytes 4 n) (low_bytes 4 (n / 256 / 256 / 256 / 256)) out at)
+bytes_from i zero n m e = refl
+bytes_from i (suc k) n m e = ap₂ ◌∷◌ (first i e) (bytes_from (suc i) k n (m / 256) (ap (λ (q : ℕ). q / 256) e ∙ div-div-eq-div-mul n (256 ^ i) 256 ∙ ap (λ (q : ℕ). n / q) (sym (pow-suc 256 i))))
+  where
+    first : (i : ℕ) → m ≡ n / 256 ^ i → byte_at i n ≡ m % 256
+    first zero e = let one : n / 1 ≡ n = omega arith in ap (λ (q : ℕ). q % 256) (sym (e ∙ one))
+    first (suc i) e = ap (λ (q : ℕ). q % 256) (sym e)
+
+pub bytes4 : (n : ℕ) → to_le_bytes w32 n ≡ low_bytes 4 n
+bytes4 n = bytes_from 0 4 n n (omega arith)
+
+pub bytes8 : (n : ℕ) → to_le_bytes w64 n ≡ low_bytes 8 n
+bytes8 n = bytes_from 0 8 n n (omega arith)
 
 pub low_length : (k n : ℕ) → length (low_bytes k n) ≡ k
 unfolding low_bytes
 low_length zero n = refl
 low_length (suc k) n = ap suc (low_length k (n / 256))
 
-pub put_two : (out : List ℕ) (at n m : ℕ) → sets (sets out at (low_bytes 8 n)) (at + 8) (low_bytes 8 m) ≡ sets out at (low_bytes 8 n ++ low_bytes 8 m)
-put_two out at n m = ap (λ (k : ℕ). sets (sets out at (low_bytes 8 n)) (at + k) (low_bytes 8 m)) (sym (low_length 8 n)) ∙ sym (sets-append (low_bytes 8 n) (low_bytes 8 m) out at)
+-- a run of k bytes put after another
+put_more : {new : List ℕ} (out xs ys : List ℕ) (at m k : ℕ) → length xs ≡ m → new ≡ ys → length ys ≡ k → at + m + k ≤ length out
+    → put_mid (at + m) k (sets out at xs) new ≡ sets out at (xs ++ ys)
+put_more out xs ys at m k e f g h =
+    put_bytes (sets out at xs) (at + m) k f g (omega (arith, length-sets out at xs))
+    ∙ ap (λ (n : ℕ). sets (sets out at xs) (at + n) ys) (sym e) ∙ sym (sets-append xs ys out at)
 
-pub put_head_next : (l : List ℕ) (a b c : ℕ)
-    → sets (sets (sets l 1 (low_bytes 4 a)) 5 (low_bytes 4 b)) 9 (low_bytes 4 c) ≡ sets l 1 (low_bytes 4 a ++ (low_bytes 4 b ++ low_bytes 4 c))
-put_head_next l a b c =
-    put_next (sets l 1 (low_bytes 4 a)) (low_bytes 4 b) (low_bytes 4 c) 5 4 (low_length 4 b)
-    ∙ put_next l (low_bytes 4 a) (low_bytes 4 b ++ low_bytes 4 c) 1 4 (low_length 4 a)
+-- a position's two floats
+pub put_both : {one two : List ℕ} (out : List ℕ) (at a b : ℕ) → at + 16 ≤ length out → one ≡ to_le_bytes w64 a → two ≡ to_le_bytes w64 b
+    → put_mid (at + 8) (at + 16 - (at + 8)) (put_mid at (at + 8 - at) out one) two ≡ sets out at (low_bytes 8 a ++ low_bytes 8 b)
+put_both {one} {two} out at a b h e f =
+    let k : at + 8 - at ≡ 8 = omega arith in
+    let m : at + 16 - (at + 8) ≡ 8 = omega arith in
+    rw (k, m)
+    (ap (λ (l : List ℕ). put_mid (at + 8) 8 l two) (put_bytes out at 8 (e ∙ bytes8 a) (low_length 8 a) (omega arith))
+    ∙ put_more out (low_bytes 8 a) (low_bytes 8 b) at 8 8 (low_length 8 a) (f ∙ bytes8 b) (low_length 8 b) (omega arith))
+
+-- two fields of four bytes
+pub put_two_fields : {one two : List ℕ} (out : List ℕ) (a b : ℕ) → 9 ≤ length out → one ≡ to_le_bytes w32 a → two ≡ to_le_bytes w32 b
+    → put_mid 5 4 (put_mid 1 4 out one) two ≡ sets out 1 (low_bytes 4 a ++ low_bytes 4 b)
+put_two_fields {one} {two} out a b h e f =
+    ap (λ (l : List ℕ). put_mid 5 4 l two) (put_bytes out 1 4 (e ∙ bytes4 a) (low_length 4 a) (omega arith))
+    ∙ put_more out (low_bytes 4 a) (low_bytes 4 b) 1 4 4 (low_length 4 a) (f ∙ bytes4 b) (low_length 4 b) (omega arith)
+
+-- three fields of four bytes, after a byte order
+pub put_fields : {one two three : List ℕ} (out : List ℕ) (a b c : ℕ) → 13 ≤ length out → one ≡ to_le_bytes w32 a → two ≡ to_le_bytes w32 b → three ≡ to_le_bytes w32 c
+    → put_mid 9 4 (put_mid 5 4 (put_mid 1 4 out one) two) three ≡ sets out 1 (low_bytes 4 a ++ (low_bytes 4 b ++ low_bytes 4 c))
+put_fields {one} {two} {three} out a b c h e f g =
+    ap (λ (l : List ℕ). put_mid 9 4 l three) (put_two_fields out a b (omega arith) e f)
+    ∙ put_more out (low_bytes 4 a ++ low_bytes 4 b) (low_bytes 4 c) 1 8 4
+    (length-append (low_bytes 4 a) (low_bytes 4 b) ∙ ap₂ ◌+◌ (low_length 4 a) (low_length 4 b)) (g ∙ bytes4 c) (low_length 4 c) (omega arith)
+    ∙ ap (sets out 1) (append_assoc (low_bytes 4 a) (low_bytes 4 b) (low_bytes 4 c))

@@ -1,14 +1,13 @@
 -- Coordinates one after another: what stands against them, and their grid numbers. Assumes nothing.
-use Rattle.std.proofs.Common.{◌≡◌, ℕ, zero, suc, ◌+◌, ◌-◌, ◌*◌, ◌<◌, ◌≤◌, true, false, List, [], ◌∷◌, ◌++◌, length, drop, set, sym, refl, ap, ◌∙◌, add_assoc, arith}
+use Rattle.std.proofs.Common.{◌≡◌, ℕ, zero, suc, ◌+◌, ◌-◌, ◌*◌, ◌<◌, ◌≤◌, true, false, List, [], ◌∷◌, ◌++◌, length, drop, set, sym, refl, ap, ap₂, ◌∙◌, add_assoc, arith}
 use lib.Seq.{sets}
-use lib.Ieee.{Float}
 use Rattle.laws.proofs.Put.{put_front}
 use Rattle.shape.specs.declared.Coordinate.{Coordinate}
 use Rattle.shape.specs.declared.Coordinate.TheVariants.{Grid, OffGrid, NotFinite}
 use Rattle.shape.specs.Answers.{Question, Answer, gives, refused, asked, over}
-use Rattle.shape.specs.Coordinates.{coordinate, float_at, coordinate_at, refusal_of, is_on_grid}
+use Rattle.shape.specs.Coordinates.{coordinate_at, refusal_of, is_on_grid, grid_number, grid_of, grid_asks, whole}
 use Rattle.shape.specs.Reading.{run, row, coordinate_asks, coordinates}
-use Rattle.shape.proofs.Asking.{stops, passes, stops_above, passes_below, ends, asked_both, and_then, fault}
+use Rattle.shape.proofs.Asking.{at_place, stops, passes, stops_above, passes_below, ends, asked_both, and_then, fault, stops_first, passes_all}
 
 -- a coordinate is on the grid just where nothing is its refusal
 unrefused_on_grid : (c : Coordinate) → refusal_of c ≡ 0 → is_on_grid c ≡ true
@@ -20,6 +19,13 @@ off_grid : (c : Coordinate) → (refusal_of c ≡ 0 → ⊥) → is_on_grid c �
 off_grid (Grid g) f = absurd (f refl)
 off_grid (OffGrid x) f = refl
 off_grid NotFinite f = refl
+
+-- the grid number of a coordinate at a place, or the rule that it breaks
+pub grid_judged : (c : Coordinate) (place : ℕ) → at_place place (grid_number c) ≡ asked (grid_asks c place) (grid_of c)
+unfolding asked
+grid_judged (Grid g) place = refl
+grid_judged (OffGrid x) place = refl
+grid_judged NotFinite place = refl
 
 -- ---- the first of some coordinates: n is what it is refused with
 
@@ -36,12 +42,27 @@ module _ {A : Type 0} {x : Answer A} (k order : ℕ) (s : List ℕ) (at : ℕ) (
   unfolding run
   fine_there h q z e = passes_below _ _ _ _ _ _ h (passes _ _ _ _ _ (unrefused_on_grid (coordinate_at order s at) (sym q ∙ z)) e)
 
--- what a call found by judging the float there
-pub found : {n : ℕ} {c : Coordinate} {x : Float} (order : ℕ) (s : List ℕ) (at : ℕ) → n ≡ refusal_of c → c ≡ coordinate x → x ≡ float_at order s at → n ≡ refusal_of (coordinate_at order s at)
-found order s at e f g = e ∙ ap refusal_of (f ∙ ap coordinate g)
+-- ... as the code finds it
+module _ {A : Type 0} {x : Answer A} (k order : ℕ) (s : List ℕ) (at : ℕ) (a : A) where
+  pub none_there : {n p : ℕ} → refused n p ≡ asked (whole 8 s at ∷ []) (tt {0}) → x ≡ refused n p → x ≡ asked (coordinates (suc k) order s at) a
+  unfolding run
+  none_there {n} {p} e h = stops_first (whole 8 s at ∷ []) (grid_asks (coordinate_at order s at) at ++ coordinates k order s (at + 8)) (tt {0}) a n p e h
 
-pub found_at : {n : ℕ} {c : Coordinate} (order : ℕ) (s : List ℕ) (at : ℕ) → n ≡ refusal_of c → c ≡ coordinate_at order s at → n ≡ refusal_of (coordinate_at order s at)
-found_at order s at e f = e ∙ ap refusal_of f
+  pub bad_there : {c : Coordinate} {n p : ℕ} → at + 8 ≤ length s → c ≡ coordinate_at order s at → refused n p ≡ asked (grid_asks c at) (grid_of c)
+      → x ≡ refused n p → x ≡ asked (coordinates (suc k) order s at) a
+  unfolding run
+  bad_there {c} {n} {p} there is e h =
+      passes_below _ _ _ _ _ _ there
+      (stops_first (grid_asks (coordinate_at order s at) at) (coordinates k order s (at + 8)) (grid_of (coordinate_at order s at)) a n p
+      (e ∙ ap (λ (d : Coordinate). asked (grid_asks d at) (grid_of d)) is) h)
+
+  pub good_there : {c : Coordinate} {g : ℕ} → at + 8 ≤ length s → c ≡ coordinate_at order s at → gives g ≡ asked (grid_asks c at) (grid_of c)
+      → x ≡ asked (coordinates k order s (at + 8)) a → x ≡ asked (coordinates (suc k) order s at) a
+  unfolding run
+  good_there {c} {g} there is e h =
+      passes_below _ _ _ _ _ _ there
+      (passes_all (grid_asks (coordinate_at order s at) at) (coordinates k order s (at + 8)) (grid_of (coordinate_at order s at)) a
+      (e ∙ ap (λ (d : Coordinate). asked (grid_asks d at) (grid_of d)) is) h)
 
 pub no_more : {A : Type 0} {x : Answer A} (order : ℕ) (s : List ℕ) (at : ℕ) (a : A) → x ≡ gives a → x ≡ asked (coordinates 0 order s at) a
 unfolding run
@@ -81,6 +102,28 @@ module _ (step : ℕ) (asks : ℕ → List Question) where
   ran_end n i at h =
       let e : 0 ≡ n - i = omega arith in
       ran_none at ∙ ap (λ (k : ℕ). ran step asks k at) e
+
+  -- a loop over n of them from a place on: what is left from the i-th on has the fault of the whole
+  module _ (n at : ℕ) where
+    abbrev pub from : ℕ → Answer (Unit {0})
+    from i = ran step asks (n - i) (at + step * i)
+
+    pub from_first : from 0 ≡ ran step asks n at
+    from_first =
+        let e : n - 0 ≡ n = omega arith in
+        let f : at + step * 0 ≡ at = omega arith in
+        ap₂ (ran step asks) e f
+
+    pub from_stop : (i : ℕ) → i < n → {k p : ℕ} → refused k p ≡ fault (asks (at + step * i)) → refused k p ≡ from i
+    from_stop i h {k} {p} e = stop n i (at + step * i) h k p e
+
+    pub from_next : (i : ℕ) → i < n → gives tt ≡ fault (asks (at + step * i)) → from (i + 1) ≡ from i
+    from_next i h e =
+        let f : at + step * (i + 1) ≡ at + step * i + step = omega arith in
+        ap (ran step asks (n - (i + 1))) f ∙ go_on n i (at + step * i) h e
+
+    pub from_last : (i : ℕ) → n ≤ i → gives tt ≡ from i
+    from_last i h = ran_end n i (at + step * i) h
 
 -- positions are coordinates, two at a time
 two_more : (k order : ℕ) (s : List ℕ) (at : ℕ) → coordinates (suc (suc k)) order s at ≡ coordinates 2 order s at ++ coordinates k order s (at + 16)
@@ -143,3 +186,16 @@ module _ (step : ℕ) (number : ℕ → ℕ) where
   filled_row n m at is old new h e =
       let l : length (row step number n at) ≡ n = row_length n at in
       filled_list (row step number) n m at is old new (omega arith) e
+
+  -- a loop that puts the n that stand from a place on into a list: with i of them put, what is left makes of the list what the whole makes of it
+  module _ (n at : ℕ) (old : List ℕ) where
+    abbrev pub Filling : ℕ → List ℕ → Type 0
+    Filling i l = sets l i (row step number (n - i) (at + step * i)) ≡ sets old 0 (row step number n at)
+
+    pub filling_next : (i : ℕ) → i < n → (l next : List ℕ) → Filling i l → next ≡ set l i (number (at + step * i)) → Filling (i + 1) next
+    filling_next i h l next f e =
+        let p : at + step * (i + 1) ≡ at + step * i + step = omega arith in
+        ap (λ (p : ℕ). sets next (i + 1) (row step number (n - (i + 1)) p)) p ∙ fill_step n i (at + step * i) h l next e ∙ f
+
+    pub filling_last : (i : ℕ) → n ≤ i → (l : List ℕ) → Filling i l → l ≡ sets old 0 (row step number n at)
+    filling_last i h l f = fill_end n i (at + step * i) h l ∙ f

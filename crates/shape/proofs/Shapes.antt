@@ -1,13 +1,19 @@
 -- What a shape begins with, exactly when: its byte order and type, and its count. One law for every shape. Assumes nothing.
-use Rattle.std.proofs.Common.{◌≡◌, ℕ, ◌+◌, ◌-◌, ◌≤◌, Bool, true, false, ◌&&◌, eqb, leb, ◌⊎◌, List, [], ◌∷◌, length, refl, ap, inl, inr, arith, eq-eqb, ne_eqb, eqb-true, le-leb, leb-false, leb-true}
+use Rattle.std.proofs.Common.{◌≡◌, ℕ, zero, suc, ◌+◌, ◌-◌, ◌<◌, ◌≤◌, Bool, true, false, ◌&&◌, eqb, leb, ◌⊎◌, List, [], ◌∷◌, length, take, drop, sym, refl, ap, ◌∙◌, inl, inr, arith, eq-eqb, ne_eqb, eqb-true, le-leb, leb-false, leb-true}
 use borrow.Author.Tests.{lt-leb, eqb-false}
 use Rattle.laws.proofs.Test.{and_iff}
-use Rattle.shape.specs.Answers.{Question, must, Answer, gives, refused}
-use Rattle.shape.specs.Bytes.{number_at}
+use Rattle.shape.specs.Answers.{Question, must, Answer, gives, refused, asked}
+use Rattle.std.specs.Prelude.{Result, Ok, Err}
+use Rattle.std.specs.Result.{IsOk, is_ok}
+use Rattle.sheet.specs.declared.refusal.Rule.{Rule}
+use Rattle.sheet.specs.Refusal.{number}
+use Rattle.shape.specs.declared.block.ByteOrder.{ByteOrder}
+use Rattle.shape.specs.declared.block.ByteOrder.TheVariants.{Big, Little}
+use Rattle.shape.specs.Bytes.{low_first, turned, code, byte_order, order_of, order_asks, number_at}
 use Rattle.shape.specs.Coordinates.{whole}
 use Rattle.shape.specs.Reading.{order_at, type_asks, size_asks}
 use Rattle.shape.specs.Refusals.{Ordered, Typed, TypeFault, no_order, other_order, no_type, other_type, Counted, Roomy, SizeFault, no_count, other_count, no_room}
-use Rattle.shape.proofs.Asking.{stops, passes, stops_above, passes_below, ends, ask_cases, fault}
+use Rattle.shape.proofs.Asking.{at_place, stops, passes, stops_above, passes_below, stops_other, passes_same, ends, ask_cases, fault, passes_all, stops_first, gives_other, given_is}
 use Rattle.shape.proofs.Heads.{passed_one}
 use Rattle.shape.proofs.Runs.{nothing_left}
 
@@ -71,6 +77,89 @@ module _ (s : List ℕ) (at type number : ℕ) where
       passes_below (at + 1) (length s) _ _ _ _ h.0
       (passes_below o 1 _ _ _ _ h.1
       (passes_below (at + 1 + 4) (length s) _ _ _ _ (omega arith) (stops _ _ _ _ _ (ne_eqb _ _ f) refl)))
+
+-- ---- ... as the code finds them
+
+-- a number is read in the byte order that a byte stands for
+pub same_number : (k byte : ℕ) (s : List ℕ) (at : ℕ) → number_at k (code (order_of byte)) s at ≡ number_at k byte s at
+same_number k zero s at = refl
+same_number k (suc n) s at = sym (ap (λ (b : Bool). low_first (turned b (take k (drop at s)))) (ne_eqb (suc n) 0 (λ e. omega arith)))
+
+pub code_is : (byte : ℕ) → byte ≤ 1 → code (order_of byte) ≡ byte
+code_is zero h = refl
+code_is (suc zero) h = refl
+code_is (suc (suc n)) h = absurd (omega arith)
+
+-- the byte order that a byte at a place stands for, or the rule that it breaks
+pub order_judged : (byte place : ℕ) → at_place place (byte_order byte) ≡ asked (order_asks byte place) (order_of byte)
+unfolding asked
+order_judged zero place = refl
+order_judged (suc zero) place = refl
+order_judged (suc (suc n)) place = stops (leb (suc (suc n)) 1) 21 place [] Little (lt-leb (suc (suc n)) 1 (omega arith)) refl
+
+pub order_found : {order : ByteOrder} (byte place : ℕ) → gives order ≡ asked (order_asks byte place) (order_of byte) → code order ≡ byte
+order_found byte place e =
+    ap code (given_is (order_asks byte place) (order_of byte) e) ∙ code_is byte (leb-true byte 1 (passed_one (leb byte 1) 21 place [] (order_of byte) e).0)
+
+-- a byte order that is known to be there
+pub ordered_ok : {r : Result ByteOrder Rule} (byte : ℕ) → byte ≤ 1 → r ≡ byte_order byte → IsOk r
+ordered_ok zero h e = ap is_ok e
+ordered_ok (suc zero) h e = ap is_ok e
+ordered_ok (suc (suc n)) h e = absurd (omega arith)
+
+pub code_of : {r : Result ByteOrder Rule} {order : ByteOrder} (byte : ℕ) → r ≡ byte_order byte → r ≡ Ok order → code order ≡ byte
+code_of {r} {order} zero e f = let g : order ≡ Big = cc in ap code g
+code_of {r} {order} (suc zero) e f = let g : order ≡ Little = cc in ap code g
+code_of (suc (suc n)) e f = cc
+
+pub ordered_low : {r : Result ByteOrder Rule} {order : ByteOrder} (byte : ℕ) → r ≡ byte_order byte → r ≡ Ok order → byte ≤ 1
+ordered_low zero e f = omega arith
+ordered_low (suc zero) e f = omega arith
+ordered_low (suc (suc n)) e f = cc
+
+-- ... or not to be
+pub unordered : {r : Result ByteOrder Rule} {rule : Rule} (byte : ℕ) → r ≡ byte_order byte → r ≡ Err rule → 1 < byte
+unordered zero e f = cc
+unordered (suc zero) e f = cc
+unordered (suc (suc n)) e f = omega arith
+
+abbrev then_asks : List ℕ → ℕ → ℕ → ℕ → List Question
+then_asks s at type number = whole 4 s (at + 1) ∷ must (eqb (number_at 4 (order_at s at) s (at + 1)) type) number (at + 1) ∷ []
+
+pub other_order_found : {x : Answer ByteOrder} {n p : ℕ} (s : List ℕ) (at type number : ℕ) → at + 1 ≤ length s
+    → refused n p ≡ asked (order_asks (order_at s at) at) (order_of (order_at s at)) → x ≡ refused n p → x ≡ asked (type_asks s at type number) (order_of (order_at s at))
+other_order_found {x} {n} {p} s at type number there e h =
+    passes_below (at + 1) (length s) 20 at _ _ there
+    (stops_first (order_asks (order_at s at) at) (then_asks s at type number) (order_of (order_at s at)) (order_of (order_at s at)) n p e h)
+
+module _ (s : List ℕ) (at type number : ℕ) {order : ByteOrder} (there : at + 1 ≤ length s)
+    (found : gives order ≡ asked (order_asks (order_at s at) at) (order_of (order_at s at))) where
+  found_is : order ≡ order_of (order_at s at)
+  found_is = given_is (order_asks (order_at s at) at) (order_of (order_at s at)) found
+
+  pub then_type : {x : Answer ByteOrder} → x ≡ asked (then_asks s at type number) (order_of (order_at s at)) → x ≡ asked (type_asks s at type number) (order_of (order_at s at))
+  then_type e =
+      passes_below (at + 1) (length s) 20 at _ _ there
+      (passes_all (order_asks (order_at s at) at) (then_asks s at type number) (order_of (order_at s at)) (order_of (order_at s at)) found e)
+
+  module _ {n : ℕ} (long : at + 1 + 4 ≤ length s) (is : n ≡ number_at 4 (code order) s (at + 1)) where
+    read_is : n ≡ number_at 4 (order_at s at) s (at + 1)
+    read_is = is ∙ ap (λ (o : ByteOrder). number_at 4 (code o) s (at + 1)) found_is ∙ same_number 4 (order_at s at) s (at + 1)
+
+    pub other_type_found : {x : Answer ByteOrder} → (n ≡ type → ⊥) → x ≡ refused number (at + 1) → x ≡ asked (type_asks s at type number) (order_of (order_at s at))
+    other_type_found f e = then_type (passes_below (at + 1 + 4) (length s) 20 (at + 1) _ _ long (stops_other _ _ _ _ _ _ read_is f e))
+
+    pub type_found : n ≡ type → gives order ≡ asked (type_asks s at type number) (order_of (order_at s at))
+    type_found e = then_type (passes_below (at + 1 + 4) (length s) 20 (at + 1) _ _ long (passes_same _ _ _ _ _ _ read_is e (ends _ (ap gives found_is))))
+
+-- what a type that was found says
+module _ (s : List ℕ) (at type number : ℕ) {order : ByteOrder} (found : gives order ≡ asked (type_asks s at type number) (order_of (order_at s at))) where
+  pub found_typed : Typed s at type
+  found_typed = typed s at type number (gives_other (type_asks s at type number) (order_of (order_at s at)) (tt {0}) order found refl)
+
+  pub order_is : code order ≡ order_at s at
+  order_is =
+      ap code (given_is (type_asks s at type number) (order_of (order_at s at)) found) ∙ code_is (order_at s at) found_typed.0.1
 
 -- ---- a count
 

@@ -1,13 +1,8 @@
 -- Document 01, 'Refusal numbers' and 'Polygon bytes': what is asked of an input, in order, what is answered, and what stands in lent memory
 -- afterwards. Assumes nothing.
-use Rattle.std.specs.Prelude.{ℕ, Bool, cond, List, [], ◌∷◌, ◌++◌, length, drop}
-use Rattle.sheet.specs.declared.Refusal.{Refusal}
-use Rattle.shape.specs.declared.Written.{Written}
-use Rattle.shape.specs.declared.Written.TheVariants.{Bytes, Refused}
-use Rattle.shape.specs.declared.Reading.{Reading}
-use Rattle.shape.specs.declared.Reading.TheVariants.{Ring, Refused as Unread}
-use Rattle.shape.specs.declared.reader.Fault.{Fault}
-use Rattle.shape.specs.declared.reader.Fault.TheVariants.{Nothing, At}
+use Rattle.std.specs.Prelude.{ℕ, Bool, cond, List, [], ◌∷◌, ◌++◌, length, drop, Result, Ok, Err}
+use Rattle.sheet.specs.declared.refusal.Refusal.{Refusal}
+use Rattle.sheet.specs.Refusal.{number}
 
 -- what has to hold, and the number and the place of the refusal where it does not
 pub record Question : Type 0 where
@@ -33,22 +28,12 @@ abbrev pub over : {A : Type 0} → Answer A → List ℕ → List ℕ → List �
 over (gives a) new old = new ++ drop (length new) old
 over (refused number place) new old = old
 
--- ---- document 01's number and values for each case of the answers
+-- ---- what the code answers
 
 abbrev pub refusal : {A : Type 0} → Refusal → Answer A
-refusal r = refused r.number r.place
+refusal r = refused (number r.rule) r.place
 
--- the bytes written
-abbrev pub written : Written → Answer ℕ
-written (Bytes n) = gives n
-written (Refused r) = refusal r
-
--- the ring's length
-abbrev pub reading : Reading → Answer ℕ
-reading (Ring n) = gives n
-reading (Unread r) = refusal r
-
--- nothing, where no question fails
-abbrev pub faulty : Fault → Answer (Unit {0})
-faulty Nothing = gives tt
-faulty (At r) = refusal r
+-- what a call answers: what was asked for, or the number of the broken rule and its place
+abbrev pub reply : {A : Type 0} → Result A Refusal → Answer A
+reply (Ok a) = gives a
+reply (Err r) = refusal r

@@ -2,7 +2,7 @@
 use Rattle.std.specs.Prelude.{ℕ, zero, suc, ◌+◌, ◌-◌, ◌*◌, ◌&&◌, List, [], ◌∷◌, ◌++◌, length, ◌==◌, nat_le, slice_index}
 use Rattle.shape.specs.Answers.{Question, must, Answer, asked}
 use Rattle.shape.specs.Bytes.{number_at}
-use Rattle.shape.specs.Coordinates.{coordinate_at, refusal_of, is_on_grid, grid_at, whole}
+use Rattle.shape.specs.Coordinates.{coordinate_at, grid_at, grid_asks, whole}
 
 -- ---- one after another
 
@@ -17,7 +17,7 @@ row step number zero at = []
 row step number (suc k) at = number at ∷ row step number k (at + step)
 
 abbrev pub coordinate_asks : ℕ → List ℕ → ℕ → List Question
-coordinate_asks order s at = whole 8 s at ∷ must (is_on_grid (coordinate_at order s at)) (refusal_of (coordinate_at order s at)) at ∷ []
+coordinate_asks order s at = whole 8 s at ∷ grid_asks (coordinate_at order s at) at
 
 -- x, y, x, y, ..: k coordinates, each in eight bytes from a place on
 abbrev pub coordinates : ℕ → ℕ → List ℕ → ℕ → List Question

@@ -1,5 +1,6 @@
 -- Document 01, 'Polygon bytes', the writer: a ring as a polygon, in a byte order. Assumes nothing.
-use Rattle.std.specs.Prelude.{ℕ, ◌+◌, ◌*◌, Bool, true, ◌&&◌, List, [], ◌∷◌, ◌++◌, length, ◌==◌, nat_le, slice_index}
+use Rattle.std.specs.Prelude.{ℕ, ◌+◌, ◌*◌, Bool, ◌&&◌, List, [], ◌∷◌, ◌++◌, length, ◌==◌, nat_le, slice_index}
+use Rattle.std.specs.List.{list_all}
 use Rattle.shape.specs.Answers.{Question, must, Answer, asked}
 use Rattle.shape.specs.Coordinates.{encode}
 use Rattle.shape.specs.Bytes.{in_order}
@@ -26,9 +27,8 @@ abbrev pub polygon : ℕ → List ℕ → List ℕ → List ℕ
 polygon order xs ys = head order (length xs) ++ positions order (around xs) (around ys)
 
 -- no coordinate is above 16,383
-unfoldable pub low : List ℕ → Bool
-low [] = true
-low (x ∷ xs) = nat_le x 16383 && low xs
+abbrev pub low : List ℕ → Bool
+low = list_all (λ x. nat_le x 16383)
 
 -- the bytes of a polygon whose ring has n positions
 abbrev pub size : ℕ → ℕ

@@ -1,36 +1,23 @@
 // One coordinate and one position: floats and grid numbers.
 // For the layer above: no public call, so a `requires` may stand.
-ghost use Rattle.std.specs.Prelude.{◌≡◌, ◌+◌, ◌≤◌, length, pos, from_bits};
+ghost use Rattle.std.specs.Prelude.{◌≡◌, ◌+◌, ◌≤◌, length, pos};
 ghost use Rattle.std.specs.Float.{binary64};
 ghost use Rattle.std.specs.Float.Ieee.{of_int, in_unsigned};
-ghost use Rattle.shape.specs.Coordinates.{coordinate, float_at, coordinate_at, refusal_of, grid_of};
+ghost use Rattle.shape.specs.Answers.{asked, reply};
+ghost use Rattle.shape.specs.Bytes.{code};
+ghost use Rattle.shape.specs.Coordinates.{coordinate, float_at, coordinate_at, grid_number, grid_asks, grid_of, grid_at};
 
-use crate::{Coordinate, Position, numbers};
-
-const INFINITE: u64 = 0x7ff0_0000_0000_0000;
-
-const SIGN: u64 = 0x8000_0000_0000_0000;
-
-// The float that a pattern stands for; each NaN pattern is a NaN.
-fn float_of(bits: u64) -> f64
-    ensures { result ≡ from_bits binary64 bits }
-{
-    if INFINITE < bits % SIGN {
-        0.0 / 0.0
-    } else {
-        f64::from_bits(bits)
-    }
-}
+use crate::block::{Block, ByteOrder};
+use crate::{Coordinate, Position};
+use sheet::{Refusal, Rule};
 
 // Whether x is a whole number from 0 to 16,383 with its sign bit clear: then its whole part has x's own pattern.
 fn on_grid(x: f64) -> bool
     ensures { result ≡ in_unsigned binary64 14 x }
 {
-    if x > -1.0 {
-        if x < 16384.0 {
-            let n = std::num::truncating_f64_to_u64(x);
-            return f64::to_bits(n as f64) == f64::to_bits(x);
-        }
+    if x > -1.0 && x < 16384.0 {
+        let n = std::num::truncating_f64_to_u64(x);
+        return f64::to_bits(n as f64) == f64::to_bits(x);
     }
     false
 }
@@ -40,66 +27,88 @@ pub fn coordinate_of(x: f64) -> Coordinate
     ensures { result ≡ coordinate x }
 {
     if on_grid(x) {
-        return Coordinate::Grid(x as u16);
+        Coordinate::Grid(x as u16)
+    } else if x.is_finite() {
+        Coordinate::OffGrid(x)
+    } else {
+        Coordinate::NotFinite
     }
-    if x > f64::from_bits(0xfff0_0000_0000_0000) {
-        if x < f64::from_bits(0x7ff0_0000_0000_0000) {
-            return Coordinate::OffGrid(x);
+}
+
+impl Block<'_> {
+    pub fn float_at(&self, at: usize) -> f64
+        requires { at + 8 ≤ length self.now.bytes.now }
+        ensures { result ≡ float_at (code self.now.order) self.now.bytes.now at }
+    {
+        std::num::f64_from_bits_with_nan(self.number8(at))
+    }
+
+    pub fn coordinate_at(&self, at: usize) -> Coordinate
+        requires { at + 8 ≤ length self.now.bytes.now }
+        ensures { result ≡ coordinate_at (code self.now.order) self.now.bytes.now at }
+    {
+        coordinate_of(self.float_at(at))
+    }
+
+    // The two floats of sixteen bytes.
+    pub fn position_at(&self, at: usize) -> Position
+        requires { at + 16 ≤ length self.now.bytes.now }
+        ensures x_value { result.x ≡ float_at (code self.now.order) self.now.bytes.now at }
+        ensures y_value { result.y ≡ float_at (code self.now.order) self.now.bytes.now (at + 8) }
+    {
+        Position {
+            x: self.float_at(at),
+            y: self.float_at(at + 8),
         }
     }
-    Coordinate::NotFinite
+
+    // The grid numbers of the position at a place, each 0 where there is none.
+    pub fn grid_position(&self, at: usize) -> (u16, u16)
+        requires { at + 16 ≤ length self.now.bytes.now }
+        ensures x_value { result.0 ≡ grid_at (code self.now.order) self.now.bytes.now at }
+        ensures y_value { result.1 ≡ grid_at (code self.now.order) self.now.bytes.now (at + 8) }
+    {
+        let p = self.position_at(at);
+        (
+            coordinate_of(p.x).grid_or_0(),
+            coordinate_of(p.y).grid_or_0(),
+        )
+    }
 }
 
-pub fn float_at(s: &[u8], order: u8, at: usize) -> f64
-    requires { at + 8 ≤ length s.now }
-    ensures { result ≡ float_at order s.now at }
-{
-    float_of(numbers::number8(s, order, at))
-}
-
-pub fn coordinate_at(s: &[u8], order: u8, at: usize) -> Coordinate
-    requires { at + 8 ≤ length s.now }
-    ensures { result ≡ coordinate_at order s.now at }
-{
-    coordinate_of(float_at(s, order, at))
-}
-
-// The two floats of sixteen bytes.
+// The two floats of sixteen bytes, under any byte for a byte order: so its promise has always been.
 pub fn position_at(s: &[u8], order: u8, at: usize) -> Position
     requires { at + 16 ≤ length s.now }
     ensures { (result.x ≡ float_at order s.now at) × (result.y ≡ float_at order s.now (at + 8)) }
 {
-    let x = float_at(s, order, at);
-    let y = float_at(s, order, at + 8);
-    Position { x, y }
+    let order = ByteOrder::of(order);
+    Block { bytes: s, order }.position_at(at)
 }
 
-// The number that a coordinate is refused with, or 0.
-pub fn refusal_of(c: Coordinate) -> u8
-    ensures { result ≡ refusal_of c }
-{
-    match c {
-        Coordinate::Grid(_) => 0,
-        Coordinate::OffGrid(_) => 26,
-        Coordinate::NotFinite => 25,
+impl Coordinate {
+    // The grid number that it is, or the rule that it breaks.
+    pub fn grid_number(self) -> Result<u16, Rule>
+        ensures { result ≡ grid_number self }
+    {
+        match self {
+            Coordinate::Grid(g) => Ok(g),
+            Coordinate::OffGrid(_) => Err(Rule::OffGrid),
+            Coordinate::NotFinite => Err(Rule::NotFinite),
+        }
     }
-}
 
-fn grid_of(c: Coordinate) -> u16
-    ensures { result ≡ grid_of c }
-{
-    match c {
-        Coordinate::Grid(g) => g,
-        Coordinate::OffGrid(_) => 0,
-        Coordinate::NotFinite => 0,
+    // The same of a coordinate that stands at a place.
+    pub fn grid_number_at(self, place: usize) -> Result<u16, Refusal>
+        ensures { reply result ≡ asked (grid_asks self place) (grid_of self) }
+    {
+        self.grid_number().map_err(|rule| rule.at(place))
     }
-}
 
-// The grid number of a float, or 0.
-pub fn grid(x: f64) -> u16
-    ensures { result ≡ grid_of (coordinate x) }
-{
-    grid_of(coordinate_of(x))
+    fn grid_or_0(self) -> u16
+        ensures { result ≡ grid_of self }
+    {
+        self.grid_number().unwrap_or(0)
+    }
 }
 
 // A grid position as floats, exactly.

@@ -1,228 +1,165 @@
 // A polygon that begins at a place of a block: the scan that finds its first fault, and the filling of the lists after it.
 // For the layer above: no public call, so a `requires` may stand.
-ghost use Rattle.std.specs.Prelude.{◌≡◌, ◌+◌, ◌*◌, ◌<◌, ◌≤◌, min, ◌&&◌, length, ◌==◌, nat_le, slice_set};
+ghost use Rattle.std.specs.Prelude.{◌≡◌, ◌+◌, ◌*◌, ◌<◌, ◌≤◌, min, [], ◌∷◌, length, OnOk};
 ghost use Rattle.std.proofs.lemmas.List.Edits.{sets};
-ghost use Rattle.shape.specs.Answers.{asked, reading, refused, faulty};
-ghost use Rattle.shape.specs.Coordinates.{grid_at};
-ghost use Rattle.shape.specs.Reading.{coordinates, grids, type_asks, size_asks, count_asks, head_asks, polygon_asks, length_at};
+ghost use Rattle.sheet.specs.Refusal.{number};
+ghost use Rattle.shape.specs.Answers.{asked, gives, reply};
+ghost use Rattle.shape.specs.Bytes.{code, order_of, number_at};
+ghost use Rattle.shape.specs.Types.{type_of};
+ghost use Rattle.shape.specs.Coordinates.{ended, whole};
+ghost use Rattle.shape.specs.Reading.{coordinates, grids, order_at, type_asks, size_asks, count, count_asks, polygon_asks, length_at, xs_at, ys_at};
 
-use crate::{Reading, coordinates, numbers};
-use sheet::Refusal;
+use crate::Shape;
+use crate::block::{Block, ByteOrder};
+use crate::coordinates::coordinate_of;
+use sheet::{Refusal, Rule};
 
-// What stands against some fields, read left to right.
-#[derive(Clone, Copy)]
-pub enum Fault {
-    Nothing,
-    At(Refusal),
-}
-
-pub fn refused(number: u8, place: usize) -> Reading
-    ensures { reading result ≡ refused number place }
+// What stands against the k bytes at a place: not all may be there. A place of any size is taken.
+pub fn whole(s: &[u8], at: usize, k: usize) -> Result<(), Refusal>
+    ensures result_value { reply result ≡ asked (whole k s.now at ∷ []) tt }
+    ensures there { OnOk result (at + k ≤ length s.now) }
 {
-    Reading::Refused(Refusal { number, place })
-}
-
-fn faulted(number: u8, place: usize) -> Fault
-    ensures { faulty result ≡ refused number place }
-{
-    Fault::At(Refusal { number, place })
-}
-
-pub fn lesser(a: usize, b: usize) -> usize
-    ensures { result ≡ min a b }
-{
-    if a < b {
-        return a;
+    if s.len() < k || s.len() - k < at {
+        return Err(Rule::CutShort.at(at));
     }
-    b
+    Ok(())
 }
 
-// Whether the k bytes at a place are there; a place of any size is taken.
-pub fn is_whole(s: &[u8], at: usize, k: usize) -> bool
-    ensures { result ≡ nat_le (at + k) (length s.now) }
+// What stands against the bytes past an end: none may be left.
+pub fn ended(s: &[u8], end: usize) -> Result<(), Refusal>
+    ensures { reply result ≡ asked (ended s.now end ∷ []) tt }
 {
-    if s.len() < k {
-        return false;
+    if end < s.len() {
+        return Err(Rule::BytesLeft.at(end));
     }
-    at <= s.len() - k
+    Ok(())
 }
 
-// What stands against the position at a place: x is judged before y is looked at.
-pub fn position_fault(s: &[u8], order: u8, at: usize) -> Fault
+// The byte order of a shape at a place, whose type is asked too: another type breaks the rule given.
+pub fn typed(s: &[u8], at: usize, shape: Shape, rule: Rule) -> Result<ByteOrder, Refusal>
     requires { at ≤ length s.now }
-    ensures { faulty result ≡ asked (coordinates 2 order s.now at) tt }
+    ensures result_value { reply result ≡ asked (type_asks s.now at (type_of shape) (number rule)) (order_of (order_at s.now at)) }
+    ensures there { OnOk result (at + 5 ≤ length s.now) }
 {
-    let half = at + 8;
-    if s.len() < half {
-        return faulted(20, at);
+    whole(s, at, 1)?;
+    let order = ByteOrder::at(s[at], at)?;
+    whole(s, at + 1, 4)?;
+    let block = Block { bytes: s, order };
+    if block.number4(at + 1) != shape.number() {
+        return Err(rule.at(at + 1));
     }
-    if s.len() < half + 8 {
-        let cut = coordinates::refusal_of(coordinates::coordinate_at(s, order, at));
-        if cut == 0 {
-            return faulted(20, half);
+    Ok(order)
+}
+
+impl Block<'_> {
+    // What stands against the position at a place: x is judged before y is looked at.
+    pub fn position_fault(&self, at: usize) -> Result<(), Refusal>
+        requires { at ≤ length self.now.bytes.now }
+        ensures { reply result ≡ asked (coordinates 2 (code self.now.order) self.now.bytes.now at) tt }
+    {
+        let half = at + 8;
+        whole(self.bytes, at, 8)?;
+        if self.bytes.len() < half + 8 {
+            self.coordinate_at(at).grid_number_at(at)?;
+            return Err(Rule::CutShort.at(half));
         }
-        return faulted(cut, at);
+        let p = self.position_at(at);
+        coordinate_of(p.x).grid_number_at(at)?;
+        coordinate_of(p.y).grid_number_at(half)?;
+        Ok(())
     }
-    let p = coordinates::position_at(s, order, at);
-    let x = coordinates::refusal_of(coordinates::coordinate_of(p.x));
-    if x != 0 {
-        return faulted(x, at);
-    }
-    let y = coordinates::refusal_of(coordinates::coordinate_of(p.y));
-    if y != 0 {
-        return faulted(y, half);
-    }
-    Fault::Nothing
-}
 
-// What stands against n positions from a place on.
-fn scan(s: &[u8], order: u8, at: usize, n: usize) -> Fault
-    requires { at ≤ length s.now }
-    ensures { faulty result ≡ asked (coordinates (2 * n) order s.now at) tt }
-{
-    let mut i = 0;
-    let mut place = at;
-    while i < n {
-        let f = position_fault(s, order, place);
-        if let Fault::At(_) = f {
-            return f;
+    // What stands against n positions from a place on.
+    fn scan(&self, at: usize, n: usize) -> Result<(), Refusal>
+        requires { at ≤ length self.now.bytes.now }
+        ensures { reply result ≡ asked (coordinates (2 * n) (code self.now.order) self.now.bytes.now at) tt }
+    {
+        for i in 0..n {
+            self.position_fault(at + 16 * i)?;
         }
-        i += 1;
-        place += 16;
+        Ok(())
     }
-    Fault::Nothing
-}
 
-// Puts the grid numbers of the position at a place into the i-th places of the lists.
-pub fn keep(s: &[u8], order: u8, at: usize, xs: &mut [u16], ys: &mut [u16], i: usize)
-    requires at_in_bounds { at + 16 ≤ length s.now }
-    requires i_in_bounds { (i < length xs.old) × (i < length ys.old) }
-    ensures xs_after { xs.new ≡ slice_set xs.old i (grid_at order s.now at) }
-    ensures ys_after { ys.new ≡ slice_set ys.old i (grid_at order s.now (at + 8)) }
-{
-    let p = coordinates::position_at(s, order, at);
-    xs[i] = coordinates::grid(p.x);
-    ys[i] = coordinates::grid(p.y);
-}
+    // Fills the lists with the grid numbers of n positions from a place on.
+    fn fill(&self, at: usize, n: usize, xs: &mut [u16], ys: &mut [u16])
+        requires n_in_bounds { at + 16 * n ≤ length self.now.bytes.now }
+        requires lists_in_bounds { (n ≤ length xs.old) × (n ≤ length ys.old) }
+        ensures xs_after { xs.new ≡ sets xs.old 0 (grids n (code self.now.order) self.now.bytes.now at) }
+        ensures ys_after { ys.new ≡ sets ys.old 0 (grids n (code self.now.order) self.now.bytes.now (at + 8)) }
+    {
+        for i in 0..n {
+            let (x, y) = self.grid_position(at + 16 * i);
+            xs[i] = x;
+            ys[i] = y;
+        }
+    }
 
-// Fills the lists with the grid numbers of n positions from a place on.
-pub fn fill(s: &[u8], order: u8, at: usize, n: usize, xs: &mut [u16], ys: &mut [u16])
-    requires n_in_bounds { at + 16 * n ≤ length s.now }
-    requires lists_in_bounds { (n ≤ length xs.old) × (n ≤ length ys.old) }
-    ensures xs_after { xs.new ≡ sets xs.old 0 (grids n order s.now at) }
-    ensures ys_after { ys.new ≡ sets ys.old 0 (grids n order s.now (at + 8)) }
-{
-    let mut i = 0;
-    let mut place = at;
-    while i < n {
-        keep(s, order, place, xs, ys, i);
-        i += 1;
-        place += 16;
+    // The count at a place, for lists that both have so much room; `repeated` is 1 where the first position is repeated last: a number,
+    // since it is added.
+    pub fn sized(&self, at: usize, repeated: usize, room: usize) -> Result<usize, Refusal>
+        requires { (at ≤ length self.now.bytes.now) × (repeated ≤ 1) }
+        ensures { reply result ≡ asked (size_asks repeated (code self.now.order) self.now.bytes.now at room) (number_at 4 (code self.now.order) self.now.bytes.now at) }
+    {
+        whole(self.bytes, at, 4)?;
+        let count = self.number4(at) as usize;
+        if count < 3 + repeated || 1024 + repeated < count {
+            return Err(Rule::PositionCount.at(at));
+        }
+        if room < count - repeated {
+            return Err(Rule::ShortLists.at(at));
+        }
+        Ok(count)
+    }
+
+    // The count of positions of a polygon at a place, whose count of rings is asked too.
+    fn counted(&self, at: usize, room: usize) -> Result<usize, Refusal>
+        requires { at + 5 ≤ length self.now.bytes.now }
+        ensures { reply result ≡ asked (count_asks (code self.now.order) self.now.bytes.now at room) (count (code self.now.order) self.now.bytes.now at) }
+    {
+        whole(self.bytes, at + 5, 4)?;
+        if self.number4(at + 5) != 1 {
+            return Err(Rule::RingCount.at(at + 5));
+        }
+        self.sized(at + 9, 1, room)
     }
 }
 
-// Whether the positions at two places have the same grid numbers.
-fn same_position(s: &[u8], order: u8, a: usize, b: usize) -> bool
-    requires { (a + 16 ≤ length s.now) × (b + 16 ≤ length s.now) }
-    ensures { result ≡ (grid_at order s.now a == grid_at order s.now b && grid_at order s.now (a + 8) == grid_at order s.now (b + 8)) }
-{
-    let p = coordinates::position_at(s, order, a);
-    let q = coordinates::position_at(s, order, b);
-    (coordinates::grid(p.x) == coordinates::grid(q.x))
-        & (coordinates::grid(p.y) == coordinates::grid(q.y))
-}
-
-// What stands against the byte order and the type at a place; another type is refused with the number given.
-pub fn type_fault(s: &[u8], at: usize, shape: u64, number: u8) -> Fault
+// What stands against the position at a place, under any byte for a byte order: so its promise has always been.
+pub fn position_fault(s: &[u8], order: u8, at: usize) -> Result<(), Refusal>
     requires { at ≤ length s.now }
-    ensures { faulty result ≡ asked (type_asks s.now at shape number) tt }
+    ensures { reply result ≡ asked (coordinates 2 order s.now at) tt }
 {
-    if s.len() < at + 1 {
-        return faulted(20, at);
-    }
-    let order = s[at];
-    if 1 < order {
-        return faulted(21, at);
-    }
-    if s.len() < at + 1 + 4 {
-        return faulted(20, at + 1);
-    }
-    if numbers::number4(s, order, at + 1) != shape {
-        return faulted(number, at + 1);
-    }
-    Fault::Nothing
+    let order = ByteOrder::of(order);
+    Block { bytes: s, order }.position_fault(at)
 }
 
-// What stands against the count at a place, for lists that both have so much room; `repeated` is 1 where the first position is repeated last.
-pub fn size_fault(s: &[u8], order: u8, at: usize, repeated: usize, room: usize) -> Fault
-    requires { (at ≤ length s.now) × (repeated ≤ 1) }
-    ensures { faulty result ≡ asked (size_asks repeated order s.now at room) tt }
-{
-    if s.len() < at + 4 {
-        return faulted(20, at);
-    }
-    let count = numbers::number4(s, order, at) as usize;
-    if count < 3 + repeated {
-        return faulted(24, at);
-    }
-    if 1024 + repeated < count {
-        return faulted(24, at);
-    }
-    if room < count - repeated {
-        return faulted(29, at);
-    }
-    Fault::Nothing
-}
-
-// What stands against the counts of rings and of positions of a polygon at a place.
-fn counts_fault(s: &[u8], order: u8, at: usize, room: usize) -> Fault
-    requires { at + 5 ≤ length s.now }
-    ensures { faulty result ≡ asked (count_asks order s.now at room) tt }
-{
-    if s.len() < at + 5 + 4 {
-        return faulted(20, at + 5);
-    }
-    if numbers::number4(s, order, at + 5) != 1 {
-        return faulted(23, at + 5);
-    }
-    size_fault(s, order, at + 9, 1, room)
-}
-
-// The head of a polygon at a place, for lists that both have so much room: the ring's length.
-fn head_at(s: &[u8], at: usize, room: usize) -> Reading
+// A polygon at a place, scanned and not kept, for lists that both have so much room: the ring's length.
+pub fn polygon_at(s: &[u8], at: usize, room: usize) -> Result<usize, Refusal>
     requires { at ≤ length s.now }
-    ensures { reading result ≡ asked (head_asks s.now at room) (length_at s.now at) }
+    ensures { reply result ≡ asked (polygon_asks s.now at room) (length_at s.now at) }
 {
-    let t = type_fault(s, at, 3, 22);
-    if let Fault::At(refusal) = t {
-        return Reading::Refused(refusal);
+    let order = typed(s, at, Shape::Polygon, Rule::OtherType)?;
+    let block = Block { bytes: s, order };
+    let n = block.counted(at, room)? - 1;
+    let first = at + 13;
+    block.scan(first, n + 1)?;
+    let last = first + 16 * n;
+    if block.grid_position(first) != block.grid_position(last) {
+        return Err(Rule::OpenRing.at(last));
     }
-    let order = s[at];
-    let f = counts_fault(s, order, at, room);
-    if let Fault::At(refusal) = f {
-        return Reading::Refused(refusal);
-    }
-    let count = numbers::number4(s, order, at + 9) as usize;
-    Reading::Ring(count - 1)
+    Ok(n)
 }
 
-// A polygon at a place, scanned and not kept: the ring's length.
-pub fn polygon_at(s: &[u8], at: usize, room: usize) -> Reading
-    requires { at ≤ length s.now }
-    ensures { reading result ≡ asked (polygon_asks s.now at room) (length_at s.now at) }
+// Fills the fronts of the lists with the ring of a polygon at a place that was taken, and answers its length.
+pub fn fill_polygon(s: &[u8], at: usize, xs: &mut [u16], ys: &mut [u16]) -> usize
+    requires { gives (length_at s.now at) ≡ asked (polygon_asks s.now at (min (length xs.old) (length ys.old))) (length_at s.now at) }
+    ensures value { result ≡ length_at s.now at }
+    ensures xs_after { xs.new ≡ sets xs.old 0 (xs_at s.now at) }
+    ensures ys_after { ys.new ≡ sets ys.old 0 (ys_at s.now at) }
 {
-    let head = head_at(s, at, room);
-    let Reading::Ring(n) = head else {
-        return head;
-    };
-    let order = s[at];
-    let f = scan(s, order, at + 13, n + 1);
-    if let Fault::At(refusal) = f {
-        return Reading::Refused(refusal);
-    }
-    let last = at + 13 + 16 * n;
-    if !same_position(s, order, at + 13, last) {
-        return refused(27, last);
-    }
-    Reading::Ring(n)
+    let order = ByteOrder::try_from(s[at]).unwrap();
+    let block = Block { bytes: s, order };
+    let n = block.number4(at + 9) as usize - 1;
+    block.fill(at + 13, n, xs, ys);
+    n
 }

@@ -3,43 +3,35 @@
 ghost use Rattle.std.specs.Prelude.{◌≡◌, ◌+◌, ◌*◌, ◌≤◌, not, ◌&&◌, T, ◌++◌, length, ◌==◌, is_nan, nat_le, to_bits};
 ghost use Rattle.std.proofs.lemmas.List.Edits.{sets};
 ghost use Rattle.std.specs.Float.{binary64};
-ghost use Rattle.shape.specs.Answers.{written, refused};
 ghost use Rattle.shape.specs.Bytes.{low_bytes};
 ghost use Rattle.shape.specs.Writing.{positions, around, head, polygon, low, size};
 
-use crate::{Position, Written, coordinates, numbers};
-use sheet::Refusal;
+use crate::block::ByteOrder;
+use crate::{Position, Shape, coordinates};
 
-pub fn refused(number: u8) -> Written
-    ensures { written result ≡ refused number 0 }
+// Whether a ring can have so many positions.
+pub fn is_ring_length(n: usize) -> bool
+    ensures { result ≡ (nat_le 3 n && nat_le n 1024) }
 {
-    Written::Refused(Refusal { number, place: 0 })
+    (3..=1024).contains(&n)
 }
 
 pub fn is_ring(xs: &[u16], ys: &[u16]) -> bool
     ensures { result ≡ (length xs.now == length ys.now && (nat_le 3 (length xs.now) && nat_le (length xs.now) 1024)) }
 {
-    let n = xs.len();
-    (n == ys.len()) & ((3 <= n) & (n <= 1024))
+    xs.len() == ys.len() && is_ring_length(xs.len())
 }
 
 fn is_low(x: &[u16]) -> bool
     ensures { result ≡ low x.now }
 {
-    let mut i = 0;
-    while i < x.len() {
-        if 16383 < x[i] {
-            return false;
-        }
-        i += 1;
-    }
-    true
+    x.iter().all(|g| *g <= 16383)
 }
 
 pub fn are_low(xs: &[u16], ys: &[u16]) -> bool
     ensures { result ≡ (low xs.now && low ys.now) }
 {
-    is_low(xs) & is_low(ys)
+    is_low(xs) && is_low(ys)
 }
 
 // Puts a position's sixteen bytes at a place.
@@ -49,8 +41,8 @@ fn put_position(out: &mut [u8], at: usize, p: Position)
     requires y_is_number { T (not (is_nan p.y)) }
     ensures { out.new ≡ sets out.old at (low_bytes 8 (to_bits binary64 p.x) ++ low_bytes 8 (to_bits binary64 p.y)) }
 {
-    numbers::put8(out, at, f64::to_bits(p.x));
-    numbers::put8(out, at + 8, f64::to_bits(p.y));
+    out[at..at + 8].copy_from_slice(&p.x.to_bits().to_le_bytes());
+    out[at + 8..at + 16].copy_from_slice(&p.y.to_bits().to_le_bytes());
 }
 
 // Puts the positions of a ring at the front, the first repeated last.
@@ -60,14 +52,10 @@ fn put_ring(xs: &[u16], ys: &[u16], out: &mut [u8])
     requires ring_fits { 16 * (length xs.now + 1) ≤ length out.old }
     ensures { out.new ≡ sets out.old 0 (positions 1 (around xs.now) (around ys.now)) }
 {
-    let mut i = 0;
-    let mut at = 0;
-    while i < xs.len() {
-        put_position(out, at, coordinates::position_of(xs[i], ys[i]));
-        i += 1;
-        at += 16;
+    for (i, x) in xs.iter().enumerate() {
+        put_position(out, 16 * i, coordinates::position_of(*x, ys[i]));
     }
-    put_position(out, at, coordinates::position_of(xs[0], ys[0]));
+    put_position(out, 16 * xs.len(), coordinates::position_of(xs[0], ys[0]));
 }
 
 fn put_head(out: &mut [u8], n: usize)
@@ -75,10 +63,10 @@ fn put_head(out: &mut [u8], n: usize)
     requires n_bound { n ≤ 1024 }
     ensures { out.new ≡ sets out.old 0 (head 1 n) }
 {
-    out[0] = 1;
-    numbers::put4(out, 1, 3);
-    numbers::put4(out, 5, 1);
-    numbers::put4(out, 9, (n as u64) + 1);
+    out[0] = ByteOrder::Little.into();
+    out[1..5].copy_from_slice(&Shape::Polygon.number().to_le_bytes());
+    out[5..9].copy_from_slice(&1u32.to_le_bytes());
+    out[9..13].copy_from_slice(&(n as u32 + 1).to_le_bytes());
 }
 
 // Puts a polygon at the front: the head, and the positions into the rest of the output after it.
