@@ -1,5 +1,5 @@
 -- A text is taken exactly where it says numbers, and then it gives those. Assumes nothing.
-use Prim.Native.Nat.{ℕ, zero, suc, ◌+◌, ◌*◌, ◌-◌, ◌≤◌, ◌<◌}
+use Prim.Native.Nat.{ℕ, ◌+◌, ◌*◌, ◌-◌, ◌≤◌, ◌<◌}
 use mathlib.Core.Path.{◌≡◌, refl, sym, ap, subst, ◌∙◌}
 use mathlib.Core.Logic.{◌↔◌, inl, inr}
 use mathlib.Core.Bool.{Bool, true, false, ◌||◌}
@@ -13,6 +13,7 @@ use Rattle.laws.proofs.Test.{and_iff, or_iff, false_iff}
 use Rattle.listing.specs.Text.{white, digit, digits, value_from, value, number, before, numbers}
 use Rattle.listing.specs.Says.{White, Digits, Number, Says, nothing, gap, last, next}
 use Rattle.listing.specs.Code.{ended, continues, scanned}
+use Rattle.listing.proofs.Scanning.{ended_some}
 use Rattle.listing.proofs.Words.{number_iff, number_front, goes_on, longer_number, snoc_length, snoc_value, scan_words}
 
 -- ---- tests and plain logic
@@ -55,7 +56,7 @@ some_same : {x y : List ℕ} → some x ≡ some y → x ≡ y
 some_same e = cc
 
 before_some : (v : ℕ) (r : Option (List ℕ)) (ns : List ℕ) → before (v ∷ []) r ≡ some ns → (ms : List ℕ) × (r ≡ some ms) × ((v ∷ ms) ≡ ns)
-before_some v none ns e = let z : ◌≡◌ {A = ℕ} 0 1 = cc in absurd (omega arith)
+before_some v none ns e = absurd cc
 before_some v (some ms) ns e = (ms, refl, some_same e)
 
 ends_so : (p ns : List ℕ) → number p ≡ true → ended (length p) (value p) (some []) ≡ some ns → Says (p ++ []) ns
@@ -81,7 +82,7 @@ says_from p (b ∷ text) ns e h = step (white b) refl (continues (length p) (val
     step true w k f fresh longer = white_so p text ns b e ((white_iff b).0 w) (rw (w, scanned) at h) fresh
     step false w true f fresh longer =
         rw append_assoc at longer (longer_number p b e f) (rw (snoc_length p b, snoc_value p b) (rw (w, f, scanned) at h))
-    step false w false f fresh longer = let k : ◌≡◌ {A = Option (List ℕ)} none (some ns) = rw (w, f, scanned) at h in let z : ◌≡◌ {A = ℕ} 0 1 = cc in absurd (omega arith)
+    step false w false f fresh longer = let k : ◌≡◌ {A = Option (List ℕ)} none (some ns) = rw (w, f, scanned) at h in absurd cc
 
 -- ---- what says numbers the scan takes
 
@@ -105,19 +106,15 @@ through p (b ∷ w) rest e =
     ∙ ap (λ (q : List ℕ). scanned (length q) (value q) rest) (append_assoc p (b ∷ []) w)
     )
 
-ended_word : (d v : ℕ) (r : Option (List ℕ)) → 0 < d → ended d v r ≡ before (v ∷ []) r
-ended_word zero v r h = absurd (omega arith)
-ended_word (suc d) v r h = refl
-
 takes : {text ns : List ℕ} → Says text ns → scanned 0 0 text ≡ some ns
 unfolding scanned value_from
 takes nothing = refl
 takes (gap {b} w s) = rw ((white_iff b).1 w, scanned) (takes s)
 takes (last {w} n) =
-    ap (scanned 0 0) (sym (append-nil w)) ∙ through [] w [] (is_number w n) ∙ ended_word (length w) (value w) (some []) n.some
+    ap (scanned 0 0) (sym (append-nil w)) ∙ through [] w [] (is_number w n) ∙ ended_some (length w) (value w) (some []) n.some
 takes (next {w} {text} {b = b} n v s) =
     through [] w (b ∷ text) (is_number w n)
-    ∙ rw ((white_iff b).1 v, scanned) (ended_word (length w) (value w) (scanned 0 0 text) n.some ∙ ap (before (value w ∷ [])) (takes s))
+    ∙ rw ((white_iff b).1 v, scanned) (ended_some (length w) (value w) (scanned 0 0 text) n.some ∙ ap (before (value w ∷ [])) (takes s))
 
 -- a text gives numbers exactly where it has at most 65,536 bytes and says those numbers
 pub numbers_exactly : (text ns : List ℕ) → (numbers text ≡ some ns) ↔ ((length text ≤ 65536) × Says text ns)
@@ -125,4 +122,4 @@ numbers_exactly text ns = (step (leb (length text) 65536) refl, (λ h. rw (le-le
   where
     step : (b : Bool) → leb (length text) 65536 ≡ b → numbers text ≡ some ns → (length text ≤ 65536) × Says text ns
     step true e h = (leb-true (length text) 65536 e, unfold digits value_from in says_from [] text ns refl (scan_words text ∙ (rw e at h)))
-    step false e h = let k : ◌≡◌ {A = Option (List ℕ)} none (some ns) = rw e at h in let z : ◌≡◌ {A = ℕ} 0 1 = cc in absurd (omega arith)
+    step false e h = let k : ◌≡◌ {A = Option (List ℕ)} none (some ns) = rw e at h in absurd cc

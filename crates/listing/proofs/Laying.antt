@@ -1,54 +1,52 @@
--- The office that numbers in front of a list say. Assumes nothing.
-use Prim.Native.Nat.{ℕ, ◌+◌, ◌*◌, ◌≤◌, ◌<◌}
+-- The office that numbers say. Assumes nothing.
+use Prim.Native.Nat.{ℕ, ◌+◌, ◌-◌, ◌*◌, ◌/◌, ◌≤◌, ◌<◌}
 use mathlib.Core.Path.{◌≡◌, sym, ap, ◌∙◌}
 use mathlib.Core.List.{List}
-use mathlib.Core.Option.{none, some}
 use native.Mathlib.Omega.{arith}
-use borrow.Author.Tests.{le-leb, lt-leb, eq-eqb, ne_eqb}
-use lib.ListN.{length, get_or, take}
-use lib.Seq.{get_or-take, length-take-le}
+use borrow.Author.Tests.{le-leb}
+use lib.ListN.{length, get_or, take, drop, length-drop}
+use lib.Seq.{get_or-take, get_or-drop, length-take-le, take_all, ext_get_or}
+use Rattle.laws.specs.First.{table}
+use Rattle.laws.proofs.Fill.{length-table, get_or-table}
 use Rattle.laws.proofs.Front.{table_same}
-use Rattle.sheet.specs.Office.{office}
-use Rattle.listing.specs.Text.{parsed, sheet_of}
-use Rattle.listing.specs.Code.{scanned, laid}
+use Rattle.listing.specs.Text.{numbers}
+use Rattle.listing.specs.Code.{scanned}
 use Rattle.listing.proofs.Words.{scan_words}
 
 module _ (text : List ℕ) where
-  parsed_scan : length text ≤ 65536 → parsed text ≡ sheet_of (scanned 0 0 text)
-  unfolding parsed
-  parsed_scan h = rw (le-leb (length text) 65536 h, ← scan_words text)
+  pub numbers_scan : length text ≤ 65536 → numbers text ≡ scanned 0 0 text
+  numbers_scan h = rw (le-leb (length text) 65536 h, ← scan_words text)
 
-  pub too_long : 65536 < length text → parsed text ≡ none
-  unfolding parsed
-  too_long h = rw (lt-leb (length text) 65536 h)
+-- what follows the two counts: the points' coordinates, and the corners
+module _ (ns : List ℕ) (n : ℕ) (h : 2 + 2 * n ≤ length ns) where
+  abbrev pub rest : List ℕ
+  rest = take (length ns - 2) (drop 2 ns)
 
-  module _ (h : length text ≤ 65536) where
-    pub no_numbers : none ≡ scanned 0 0 text → parsed text ≡ none
-    no_numbers e = parsed_scan h ∙ ap sheet_of (sym e)
+  abbrev pub coordinates : List ℕ
+  coordinates = take (2 * n) rest
 
-    module _ (all : List ℕ) (count : ℕ) (e : some (take count all) ≡ scanned 0 0 text) (room : count ≤ length all) where
-      long : length (take count all) ≡ count
-      long = length-take-le count all room
+  at_rest : (j : ℕ) → get_or rest j 0 ≡ get_or ns (2 + j) 0
+  at_rest j = ap (λ (l : List ℕ). get_or l j 0) (take_all (length ns - 2) (drop 2 ns) (omega (arith, length-drop 2 ns))) ∙ get_or-drop 2 ns j 0
 
-      pub too_few : count < 2 → parsed text ≡ none
-      too_few l = parsed_scan h ∙ ap sheet_of (sym e) ∙ rw (long, lt-leb 2 count l)
+  twice : length coordinates / 2 ≡ n
+  twice = let l : length coordinates ≡ 2 * n = length-take-le (2 * n) rest (omega (arith, length-take-le (length ns - 2) (drop 2 ns) (omega (arith, length-drop 2 ns)))) in omega arith
 
-      module _ (l : 2 ≤ count) where
-        n : get_or (take count all) 0 0 ≡ get_or all 0 0
-        n = get_or-take count all 0 0 (omega arith)
+  axis : (from to : ℕ → ℕ) → ((i : ℕ) → i < n → (from i < 2 * n) × (2 + from i ≡ to i))
+      → table (λ i. get_or coordinates (from i) 0) (length coordinates / 2) ≡ table (λ i. get_or ns (to i) 0) n
+  axis from to f =
+      ap (table (λ i. get_or coordinates (from i) 0)) twice
+      ∙ table_same (λ i. get_or coordinates (from i) 0) (λ i. get_or ns (to i) 0) n
+      (λ i b. get_or-take (2 * n) rest (from i) 0 (f i b).0 ∙ at_rest (from i) ∙ ap (λ (k : ℕ). get_or ns k 0) (f i b).1)
 
-        t : get_or (take count all) 1 0 ≡ get_or all 1 0
-        t = get_or-take count all 1 0 (omega arith)
+  pub across : table (λ i. get_or coordinates (2 * i) 0) (length coordinates / 2) ≡ table (λ i. get_or ns (2 + 2 * i) 0) n
+  across = axis (λ i. 2 * i) (λ i. 2 + 2 * i) (λ i b. (omega arith, omega arith))
 
-        pub wrong_count : (count ≡ 2 + 2 * get_or all 0 0 + 3 * get_or all 1 0 → ⊥) → parsed text ≡ none
-        wrong_count f = parsed_scan h ∙ ap sheet_of (sym e) ∙ rw (long, n, t, le-leb 2 count l, ne_eqb count (2 + 2 * get_or all 0 0 + 3 * get_or all 1 0) f)
+  pub up : table (λ i. get_or coordinates (2 * i + 1) 0) (length coordinates / 2) ≡ table (λ i. get_or ns (3 + 2 * i) 0) n
+  up = axis (λ i. 2 * i + 1) (λ i. 3 + 2 * i) (λ i b. (omega arith, omega arith))
 
-        pub right_count : count ≡ 2 + 2 * get_or all 0 0 + 3 * get_or all 1 0 → parsed text ≡ some (laid (get_or all 0 0) (get_or all 1 0) all)
-        right_count f =
-            parsed_scan h ∙ ap sheet_of (sym e)
-            ∙ rw (long, n, t, le-leb 2 count l, eq-eqb count (2 + 2 * get_or all 0 0 + 3 * get_or all 1 0) f) (
-            λ i. some (office
-            (table_same (λ k. get_or (take count all) (2 + 2 * k) 0) (λ k. get_or all (2 + 2 * k) 0) (get_or all 0 0) (λ k b. get_or-take count all (2 + 2 * k) 0 (omega arith)) i)
-            (table_same (λ k. get_or (take count all) (3 + 2 * k) 0) (λ k. get_or all (3 + 2 * k) 0) (get_or all 0 0) (λ k b. get_or-take count all (3 + 2 * k) 0 (omega arith)) i)
-            (table_same (λ k. get_or (take count all) (2 + 2 * get_or all 0 0 + k) 0) (λ k. get_or all (2 + 2 * get_or all 0 0 + k) 0) (3 * get_or all 1 0) (λ k b. get_or-take count all (2 + 2 * get_or all 0 0 + k) 0 (omega arith)) i))
-            )
+  pub round : (s : ℕ) → length ns ≡ 2 + 2 * n + s → drop (2 * n) rest ≡ table (λ i. get_or ns (2 + 2 * n + i) 0) s
+  round s e =
+      let l : length rest ≡ 2 * n + s = length-take-le (length ns - 2) (drop 2 ns) (omega (arith, length-drop 2 ns)) ∙ (omega (arith, length-drop 2 ns)) in
+      let k : length (drop (2 * n) rest) ≡ s = omega (arith, length-drop (2 * n) rest) in
+      ext_get_or 0 (drop (2 * n) rest) (table (λ i. get_or ns (2 + 2 * n + i) 0) s) (k ∙ sym (length-table (λ i. get_or ns (2 + 2 * n + i) 0) s))
+      (λ i b. get_or-drop (2 * n) rest i 0 ∙ at_rest (2 * n + i) ∙ ap (λ (k : ℕ). get_or ns k 0) (omega arith) ∙ sym (get_or-table (λ i. get_or ns (2 + 2 * n + i) 0) s i (omega arith)))

@@ -1,59 +1,34 @@
 -- Text put one piece after another. Assumes nothing.
-use Prim.Native.Nat.{ℕ, ◌+◌, ◌≤◌, ◌<◌}
-use mathlib.Core.Path.{◌≡◌, refl, sym, ap, subst, ◌∙◌}
-use mathlib.Core.List.{List, [], ◌∷◌, ◌++◌}
-use native.Mathlib.Numerals.{add-one}
+use Prim.Native.Nat.{ℕ, ◌+◌, ◌-◌, ◌≤◌}
+use mathlib.Core.Path.{◌≡◌, sym, ap, ap₂, subst, ◌∙◌}
+use mathlib.Core.List.{List, ◌++◌, append_assoc}
 use native.Mathlib.Omega.{arith}
-use lib.ListN.{length, get_or, drop, set, length-append, drop_of_length-le}
-use lib.Seq.{drop-cons, sets}
+use borrow.Rule.Slice.PartMut.{put_mid}
+use lib.ListN.{length, take, drop, length-append}
+use lib.Seq.{sets, sets-eq}
+use Rattle.std.proofs.lemmas.List.{drop-drop}
 use Rattle.laws.proofs.Put.{sets-append}
-use Rattle.listing.specs.Code.{Put, Left}
+use Rattle.listing.specs.declared.printer.Line.{Line}
+use Rattle.listing.specs.Code.{Puts}
 
-pub put_one : {out : List ℕ} {at b : ℕ} → Put out (set out at b) at (at + 1) (b ∷ [])
-put_one = record { puts = refl; ends = refl }
+-- a text copied into the part of a list that is as long
+pub copied : (l vs ys : List ℕ) (at : ℕ) → at + length vs ≤ length l → ys ≡ vs → put_mid at (at + length vs - at) l ys ≡ sets l at vs
+copied l vs ys at h e =
+    ap₂ (λ (k : ℕ) (r : List ℕ). take at l ++ (r ++ drop k (drop at l))) (omega arith) e
+    ∙ ap (λ (r : List ℕ). take at l ++ (vs ++ r)) (drop-drop (length vs) at l)
+    ∙ sym (sets-eq vs l at h ∙ append_assoc (take at l) vs (drop (at + length vs) l))
 
-pub put_same : {out out' s t : List ℕ} {at to : ℕ} → s ≡ t → Put out out' at to s → Put out out' at to t
-put_same {out} {out'} {at = at} {to} e p = subst (λ (r : List ℕ). Put out out' at to r) e p
+pub puts_same : {s s' : Line} {a b : List ℕ} → a ≡ b → Puts s s' a → Puts s s' b
+puts_same {s} {s'} e p = subst (λ (r : List ℕ). Puts s s' r) e p
 
-pub put_two : {out a b s t : List ℕ} {at m to : ℕ} → Put out a at m s → Put a b m to t → Put out b at to (s ++ t)
-put_two {out} {s = s} {t} {at} {m} p q = record {
+pub puts_two : {s m s' : Line} {a b : List ℕ} → Puts s m a → Puts m s' b → Puts s s' (a ++ b)
+puts_two {s} {m} {s'} {a} {b} p q = record {
+  same = q.same ∙ p.same;
+  long = q.long ∙ p.long;
   puts =
       q.puts
-      ∙ ap (λ (o : List ℕ). sets o m t) p.puts
-      ∙ ap (λ (n : ℕ). sets (sets out at s) n t) p.ends
-      ∙ sym (sets-append s t out at);
-  ends = omega (arith, length-append s t);
+      ∙ ap (λ (o : List ℕ). sets o m.at b) p.puts
+      ∙ ap (λ (n : ℕ). sets (sets s.out.now s.at a) n b) p.ends
+      ∙ sym (sets-append a b s.out.now s.at);
+  ends = omega (arith, length-append a b);
 }
-
-pub whole : {out text : List ℕ} {at : ℕ} → Left out at text out at text
-whole = record { makes = refl; comes = refl }
-
--- a piece of what is left is put
-pub put_on : {out₀ text out out' s rest : List ℕ} {at₀ at to : ℕ} → Left out₀ at₀ text out at (s ++ rest) → Put out out' at to s → Left out₀ at₀ text out' to rest
-put_on {out = out} {s = s} {rest} {at = at} {to} l p = record {
-  makes =
-      ap (λ (o : List ℕ). sets o to rest) p.puts
-      ∙ ap (λ (n : ℕ). sets (sets out at s) n rest) p.ends
-      ∙ sym (sets-append s rest out at)
-      ∙ l.makes;
-  comes = omega (arith, length-append s rest);
-}
-
--- all that is left is put
-pub put_last : {out₀ text out out' s : List ℕ} {at₀ at to : ℕ} → Left out₀ at₀ text out at s → Put out out' at to s → Put out₀ out' at₀ to text
-put_last l p = record { puts = p.puts ∙ l.makes; ends = p.ends ∙ l.comes }
-
--- nothing is left
-pub put_all : {out₀ text out : List ℕ} {at₀ at : ℕ} → Left out₀ at₀ text out at [] → Put out₀ out at₀ at text
-put_all l = record { puts = l.makes; ends = omega arith }
-
-pub drop_next : (l : List ℕ) (i : ℕ) → i < length l → drop i l ≡ get_or l i 0 ∷ drop (i + 1) l
-drop_next l i h = rw (add-one, drop-cons l i 0)
-
--- the next byte of a text
-pub put_next : {out₀ text out : List ℕ} {at₀ at : ℕ} (l : List ℕ) (i : ℕ) → i < length l → Left out₀ at₀ text out at (drop i l)
-    → Left out₀ at₀ text (set out at (get_or l i 0)) (at + 1) (drop (i + 1) l)
-put_next l i h f = put_on (rw (drop_next l i h) at f) put_one
-
-pub put_no_more : {out₀ text out : List ℕ} {at₀ at : ℕ} (l : List ℕ) (i : ℕ) → length l ≤ i → Left out₀ at₀ text out at (drop i l) → Put out₀ out at₀ at text
-put_no_more l i h f = put_all (rw (drop_of_length-le l {i = i} h) at f)

@@ -10,7 +10,7 @@ use lib.ListN.{length, get_or, take, drop, set, length-set, drop_of_length-le}
 use lib.Seq.{take-suc-set}
 use Rattle.listing.specs.Text.{white, before}
 use Rattle.listing.specs.Code.{ended, continues, scanned}
-use Rattle.listing.proofs.Putting.{drop_next}
+use Rattle.std.proofs.lemmas.List.{drop_more}
 
 before_two : (xs ys : List ℕ) (r : Option (List ℕ)) → before xs (before ys r) ≡ before (xs ++ ys) r
 before_two xs ys none = refl
@@ -26,22 +26,7 @@ pub record Scan (text all : List ℕ) (count digits value i : ℕ) : Type 0 wher
   pub fresh : digits ≡ 0 → value ≡ 0
   pub goes : before (take count all) (scanned digits value (drop i text)) ≡ scanned 0 0 text
 
-pub scan_begins : {text all : List ℕ} → length text ≤ 65536 → 32768 ≤ length all → Scan text all 0 0 0 0
-scan_begins {text} h l = record {
-  within = omega arith;
-  short = h;
-  long = l;
-  room = omega arith;
-  small = omega arith;
-  fresh = λ e. e;
-  goes = none_before (scanned 0 0 text);
-}
-  where
-    none_before : (r : Option (List ℕ)) → before [] r ≡ r
-    none_before none = refl
-    none_before (some ns) = refl
-
-ended_some : (d v : ℕ) (r : Option (List ℕ)) → 0 < d → ended d v r ≡ before (v ∷ []) r
+pub ended_some : (d v : ℕ) (r : Option (List ℕ)) → 0 < d → ended d v r ≡ before (v ∷ []) r
 ended_some zero v r h = absurd (omega arith)
 ended_some (suc d) v r h = refl
 
@@ -57,16 +42,16 @@ module _ {text all : List ℕ} {count digits value i : ℕ} (s : Scan text all c
   module _ (l : i < length text) where
     scanned_white : white (get_or text i 0) ≡ true → scanned digits value (drop i text) ≡ ended digits value (scanned 0 0 (drop (i + 1) text))
     unfolding scanned
-    scanned_white w = rw (drop_next text i l, w, scanned)
+    scanned_white w = rw (drop_more text i 0 l, w, scanned)
 
     scanned_more : white (get_or text i 0) ≡ false → continues digits value (get_or text i 0) ≡ true
         → scanned digits value (drop i text) ≡ scanned (suc digits) (10 * value + (get_or text i 0 - 48)) (drop (i + 1) text)
     unfolding scanned
-    scanned_more w k = rw (drop_next text i l, w, k, scanned)
+    scanned_more w k = rw (drop_more text i 0 l, w, k, scanned)
 
     scanned_bad : white (get_or text i 0) ≡ false → continues digits value (get_or text i 0) ≡ false → scanned digits value (drop i text) ≡ none
     unfolding scanned
-    scanned_bad w k = rw (drop_next text i l, w, k, scanned)
+    scanned_bad w k = rw (drop_more text i 0 l, w, k, scanned)
 
     -- white space ends a word
     pub word_ends : white (get_or text i 0) ≡ true → 0 < digits → Scan text (set all count value) (count + 1) 0 0 (i + 1)

@@ -1,38 +1,26 @@
 -- Digits from the last to the first, and the lengths of numbers and lines. Assumes nothing.
-use Prim.Native.Nat.{ℕ, zero, suc, ◌+◌, ◌-◌, ◌*◌, ◌/◌, ◌%◌, ◌^◌, ◌≤◌, ◌<◌}
-use mathlib.Core.Path.{◌≡◌, refl, ap, ◌∙◌}
+use Prim.Native.Nat.{ℕ, zero, suc, ◌+◌, ◌*◌, ◌/◌, ◌%◌, ◌^◌, ◌≤◌, ◌<◌}
+use mathlib.Core.Path.{◌≡◌, refl, sym, ◌∙◌}
 use mathlib.Core.Bool.{Bool, true, false}
-use mathlib.Core.List.{List, [], ◌∷◌, ◌++◌}
+use mathlib.Core.List.{List, [], ◌∷◌, ◌++◌, append-nil}
 use native.Mathlib.Nat.{pow-suc, div-lt_iff_lt-mul}
 use native.Mathlib.Omega.{arith}
 use borrow.Author.Tests.{lt-ltb, le-ltb}
 use lib.Dec.{ltb, lit<}
-use lib.ListN.{length, get_or, take, drop, set, length-set, length-drop, length-append, drop_of_length-le}
-use lib.Seq.{drop-cons, take_all, drop-set-lt, get_or-set_same}
-use Rattle.listing.specs.Code.{Put, Left}
+use lib.ListN.{length, get_or, drop, length-append}
+use Rattle.std.specs.Fmt.{decimal as library}
+use Rattle.std.proofs.lemmas.Fmt.{PrependsLastDigit, decimal_from_prepends, length-decimal-le}
 use Rattle.listing.specs.Line.{spelled, decimal, onward}
-use Rattle.listing.proofs.Putting.{put_on, put_last, drop_next}
+use Rattle.std.proofs.lemmas.List.{drop_more}
 
-drop_set_here : (l : List ℕ) (j v : ℕ) → j < length l → drop j (set l j v) ≡ v ∷ drop (suc j) l
-drop_set_here l j v h =
-    drop-cons (set l j v) j 0 (omega (arith, length-set l j v))
-    ∙ ap (λ (n : ℕ). n ∷ drop (suc j) (set l j v)) (get_or-set_same l j v 0 h)
-    ∙ ap (λ (r : List ℕ). v ∷ r) (drop-set-lt (suc j) l j v (omega arith))
+prepends : PrependsLastDigit spelled
+unfolding spelled
+prepends = record { one = λ k n acc h. rw (lt-ltb n 10 h, spelled); more = λ k n acc h. rw (le-ltb n 10 h, spelled) }
 
-module _ (l : List ℕ) (i j n : ℕ) (e : i ≡ suc j) (h : j < length l) where
-  -- the last digit of a number of several
-  pub spell_more : 10 ≤ n → spelled j (n / 10) (drop j (set l j (48 + n % 10))) ≡ spelled i n (drop i l)
-  unfolding spelled
-  spell_more b = rw (e, drop_set_here l j (48 + n % 10) h, le-ltb n 10 b, spelled)
-
-  -- a number of one digit
-  pub spell_last : n < 10 → drop j (set l j (48 + n)) ≡ spelled i n (drop i l)
-  unfolding spelled
-  spell_last b = rw (e, drop_set_here l j (48 + n) h, lt-ltb n 10 b, spelled)
-
-  -- the same as the rule of a part that is lent has it
-  pub spell_text : length l ≡ 20 → n < 10 → take (20 - j) (drop j (set l j (48 + n))) ≡ spelled i n (drop i l)
-  spell_text k b = take_all (20 - j) (drop j (set l j (48 + n))) (omega (arith, length-drop j (set l j (48 + n)), length-set l j (48 + n))) ∙ spell_last b
+-- the library's decimal text is the same
+pub decimal_is : (n : ℕ) → n < 2 ^ 64 → library n ≡ decimal n
+unfolding decimal spelled
+decimal_is n h = sym (decimal_from_prepends spelled prepends 20 n [] h (length-decimal-le 20 n (omega arith) (omega arith) h) ∙ append-nil (library n))
 
 -- fewer digits are left
 pub fewer : (i j n : ℕ) → i ≡ suc j → n < 10 ^ i → 10 ≤ n → (1 ≤ j) × (n / 10 < 10 ^ j)
@@ -60,19 +48,10 @@ onward_short (n ∷ ns) =
     let d = decimal_short n in
     omega (arith, length-append (32 ∷ decimal n) (onward ns))
 
-pub onward_nil : length (onward []) ≡ 1
-unfolding onward
-onward_nil = refl
-
 pub onward_cons : (n : ℕ) (ns : List ℕ) → onward (n ∷ ns) ≡ (32 ∷ decimal n) ++ onward ns
 unfolding onward
 onward_cons n ns = refl
 
--- ---- a ring's fields, one by one
-
-module _ {out₀ text out out' : List ℕ} {at₀ at to : ℕ} (ring : List ℕ) (i : ℕ) (f : Left out₀ at₀ text out at (onward (drop i ring))) where
-  pub put_ring_on : (n : ℕ) → i < length ring → n ≡ get_or ring i 0 → Put out out' at to (32 ∷ decimal n) → Left out₀ at₀ text out' to (onward (drop (i + 1) ring))
-  put_ring_on n h e p = put_on (rw (drop_next ring i h, ← e, onward_cons) at f) p
-
-  pub put_ring_end : length ring ≤ i → Put out out' at to (onward []) → Put out₀ out' at₀ to text
-  put_ring_end h p = put_last (rw (drop_of_length-le ring {i = i} h) at f) p
+-- a ring's next field
+pub onward_next : (ring : List ℕ) (i : ℕ) → i < length ring → onward (drop i ring) ≡ (32 ∷ decimal (get_or ring i 0)) ++ onward (drop (i + 1) ring)
+onward_next ring i h = rw (drop_more ring i 0 h) (onward_cons (get_or ring i 0) (drop (i + 1) ring))

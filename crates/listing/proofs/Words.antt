@@ -9,18 +9,15 @@ use native.Mathlib.Omega.{arith}
 use borrow.Author.Tests.{le-leb, leb-true, lt-ltb, ltb-true}
 use lib.Dec.{leb, ltb}
 use lib.ListN.{length, length-append}
+use Rattle.std.proofs.Math.Bool.{and_assoc}
 use Rattle.laws.proofs.Test.{and_iff, false_iff}
 use Rattle.listing.specs.Text.{white, digit, digits, value_from, value, number, parted, unless_empty, words, values}
 use Rattle.listing.specs.Code.{ended, continues, scanned}
 
-and_assoc : (a b c : Bool) → (a && (b && c)) ≡ ((a && b) && c)
-and_assoc true b c = refl
-and_assoc false b c = refl
-
 pub digits_append : (p q : List ℕ) → digits (p ++ q) ≡ (digits p && digits q)
 unfolding digits
 digits_append [] q = refl
-digits_append (b ∷ p) q = ap (λ (t : Bool). digit b && t) (digits_append p q) ∙ and_assoc (digit b) (digits p) (digits q)
+digits_append (b ∷ p) q = ap (λ (t : Bool). digit b && t) (digits_append p q) ∙ sym (and_assoc (digit b) (digits p) (digits q))
 
 pub value_append : (n : ℕ) (p q : List ℕ) → value_from n (p ++ q) ≡ value_from (value_from n p) q
 unfolding value_from

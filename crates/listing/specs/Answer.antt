@@ -1,20 +1,21 @@
 -- Document 01, 'The printed list': what parsing answers, and what stands in lent memory after it and after a print. Assumes nothing.
-use Rattle.std.specs.Prelude.{ℕ, ◌*◌, ◌≤◌, Bool, cond, ◌&&◌, List, ◌++◌, leb, length, drop}
+use Rattle.std.specs.Prelude.{ℕ, Bool, cond, ◌&&◌, List, ◌++◌, leb, length, drop, Result, Ok, Err}
 use Rattle.std.proofs.Math.Option.{Option, none, some}
 use Rattle.sheet.specs.Office.{Office, points, sides, triangles}
 use Rattle.listing.specs.Text.{parsed}
 use Rattle.listing.specs.Line.{room}
-use Rattle.listing.specs.declared.Parsed.{Parsed}
-use Rattle.listing.specs.declared.Parsed.TheVariants.{Counts, Refused}
+use Rattle.sheet.specs.Refusal.{number}
+use Rattle.sheet.specs.declared.refusal.Refusal.{Refusal}
+use Rattle.listing.specs.declared.Counts.{Counts}
 
 -- the point count and the triangle count, or a refusal's number and place
 pub data Answer : Type 0 where
   counts : ℕ → ℕ → Answer
   refused : ℕ → ℕ → Answer
 
-abbrev pub answer : Parsed → Answer
-answer (Counts n t) = counts n t
-answer (Refused r) = refused r.number r.place
+abbrev pub answer : Result Counts Refusal → Answer
+answer (Ok c) = counts c.points c.triangles
+answer (Err r) = refused (number r.rule) r.place
 
 pub record AfterParse : Type 0 where
   pub answer : Answer
@@ -38,11 +39,6 @@ parsing (some o) xs ys corners = cond (holds o xs ys corners)
 
 abbrev pub after_parse : List ℕ → List ℕ → List ℕ → List ℕ → AfterParse
 after_parse text xs ys corners = parsing (parsed text) xs ys corners
-
--- the counts are within the lists
-abbrev pub Roomy : Parsed → List ℕ → List ℕ → List ℕ → Type 0
-Roomy (Counts n t) xs ys corners = (n ≤ length xs) × (n ≤ length ys) × (3 * t ≤ length corners)
-Roomy (Refused r) xs ys corners = Unit {0}
 
 -- a line of so many fields is printed where there is room for every such line; else nothing is
 abbrev pub printed : ℕ → List ℕ → List ℕ → ℕ

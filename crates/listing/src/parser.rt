@@ -1,145 +1,108 @@
 // Numbers out of a text, and an office out of numbers.
 // For this crate: no public call, so a `requires` may stand.
-ghost use Rattle.std.specs.Prelude.{◌≡◌, true, ◌+◌, ◌*◌, ◌-◌, ◌≤◌, length, get_or};
-ghost use Rattle.std.proofs.lemmas.List.Edits.{sets};
+ghost use Rattle.std.specs.Prelude.{◌≡◌, true, false, ◌+◌, ◌*◌, ◌-◌, ◌/◌, ◌≤◌, length, take, get_or, MatchOption, IfSome};
+ghost use Rattle.std.proofs.Math.Option.{none, some};
 ghost use Rattle.laws.specs.First.{table};
-ghost use Rattle.listing.specs.Text.{white, digit};
-ghost use Rattle.listing.specs.Code.{scanned, told, continues, Within, Seen};
-ghost use Rattle.listing.specs.Answer.{answer, refused, over};
+ghost use Rattle.listing.specs.Text.{white, numbers, counted, point_count, triangle_count};
+ghost use Rattle.listing.specs.Code.{scanned, continues};
+ghost use Rattle.listing.specs.Answer.{over};
 
-use crate::Parsed;
-use sheet::Refusal;
-
-// How many numbers a text says, or that it says none.
-#[derive(Clone, Copy)]
-pub enum Numbers {
-    Count(usize),
-    Fault,
-}
+use crate::Counts;
 
 fn is_white(b: u8) -> bool
     ensures { result ≡ white b }
 {
-    (b == 32) | (b == 10) | (b == 13)
+    matches!(b, b' ' | b'\n' | b'\r')
 }
 
-fn is_digit(b: u8) -> bool
-    ensures { result ≡ digit b }
-{
-    (48 <= b) & (b <= 57)
+// A word that has begun: how many digits it has, and the number that they say.
+#[derive(Clone, Copy, Default)]
+struct Word {
+    digits: u8,
+    value: u16,
 }
 
-// The number that a digit after a number makes.
-fn longer(value: u32, b: u8) -> u32
-    requires { (value ≤ 65535) × (48 ≤ b) }
-    ensures { result ≡ 10 * value + (b - 48) }
-{
-    let digit = b as u32;
-    10 * value + (digit - 48)
-}
-
-// Whether a byte continues a word of so many digits that say a number.
-fn goes_on(digits: u32, value: u32, b: u8) -> bool
-    requires { value ≤ 65535 }
-    ensures { result ≡ continues digits value b }
-{
-    if !is_digit(b) {
-        return false;
+impl Word {
+    // The word with one more byte, where that still says a number.
+    fn longer(self, b: u8) -> Option<Word>
+        ensures { MatchOption result (continues self.digits self.value b ≡ false)
+            (λ w. (continues self.digits self.value b ≡ true) × (w.digits ≡ self.digits + 1) × (w.value ≡ 10 * self.value + (b - 48))) }
+    {
+        if !b.is_ascii_digit() || 5 <= self.digits {
+            return None;
+        }
+        let value = self
+            .value
+            .checked_mul(10)?
+            .checked_add(u16::from(b - b'0'))?;
+        Some(Word {
+            digits: self.digits + 1,
+            value,
+        })
     }
-    (digits < 5) & (longer(value, b) <= 65535)
 }
 
-// The numbers of a text, at the front of a list that holds as many as it can say; where it is at fault, the list is of no use.
-fn scan(text: &[u8], all: &mut [u16]) -> Numbers
-    requires { (length text.now ≤ 65536) × (32768 ≤ length all.old) }
-    ensures all_after { told result all.new ≡ scanned 0 0 text.now }
-    ensures within { Within result }
+// Puts the numbers of a text at the front of a list that holds as many as it can say, and answers how many they are.
+fn scan(text: &[u8], all: &mut [u16; 32768]) -> Option<usize>
+    requires { length text.now ≤ 65536 }
+    ensures all_after { MatchOption result (none ≡ scanned 0 0 text.now) (λ n. some (take n all.new) ≡ scanned 0 0 text.now) }
+    ensures within { IfSome result (λ n. n ≤ 32768) }
 {
     let mut count = 0;
-    let mut digits: u32 = 0;
-    let mut value: u32 = 0;
-    let mut i = 0;
-    while i < text.len() {
-        let b = text[i];
-        i += 1;
-        if is_white(b) {
-            if 0 < digits {
-                all[count] = value as u16;
-                count += 1;
-                digits = 0;
-                value = 0;
-            }
-        } else {
-            if !goes_on(digits, value, b) {
-                return Numbers::Fault;
-            }
-            value = longer(value, b);
-            digits += 1;
+    let mut word = Word::default();
+    for b in text {
+        if !is_white(*b) {
+            word = word.longer(*b)?;
+        } else if 0 < word.digits {
+            all[count] = word.value;
+            count += 1;
+            word = Word::default();
         }
     }
-    if 0 < digits {
-        all[count] = value as u16;
+    if 0 < word.digits {
+        all[count] = word.value;
         count += 1;
     }
-    Numbers::Count(count)
+    Some(count)
 }
 
-fn wide(n: u16) -> usize
-    ensures { (result ≡ n) × (result ≤ 65535) }
-{
-    n as usize
-}
-
-pub fn refused(number: u8) -> Parsed
-    ensures { answer result ≡ refused number 0 }
-{
-    Parsed::Refused(Refusal { number, place: 0 })
-}
-
-// The counts of the office that a text says, whose numbers stand at the front of a list then.
-pub fn counts_of(text: &[u8], all: &mut [u16]) -> Parsed
-    requires { length all.old ≡ 32768 }
-    ensures { Seen text.now all.new result }
+// The numbers that a text says, put into a list that holds as many as it can say.
+#[tactic(auto, using(crate::proofs::Laying::numbers_scan))]
+pub fn numbers<'a>(text: &[u8], all: &'a mut [u16; 32768]) -> Option<&'a [u16]>
+    ensures { MatchOption result (numbers text.now ≡ none) (λ ns. numbers text.now ≡ some ns.now) }
 {
     if 65536 < text.len() {
-        return refused(40);
+        return None;
     }
-    let found = scan(text, all);
-    let Numbers::Count(count) = found else {
-        return refused(40);
-    };
-    if count < 2 {
-        return refused(40);
-    }
-    let points = wide(all[0]);
-    let triangles = wide(all[1]);
-    if count != 2 + 2 * points + 3 * triangles {
-        return refused(40);
-    }
-    Parsed::Counts(points, triangles)
+    let count = scan(text, all)?;
+    Some(&all[..count])
 }
 
-// Points are pairs of x and y after the two counts.
-pub fn fill_points(all: &[u16], n: usize, xs: &mut [u16], ys: &mut [u16])
-    requires { (2 + 2 * n ≤ length all.now) × (n ≤ length xs.old) × (n ≤ length ys.old) }
-    ensures xs_after { xs.new ≡ over (table (λ i. get_or all.now (2 + 2 * i) 0) n) xs.old }
-    ensures ys_after { ys.new ≡ over (table (λ i. get_or all.now (3 + 2 * i) 0) n) ys.old }
+// The two counts, where as many numbers follow as they say.
+pub fn counts(numbers: &[u16]) -> Option<Counts>
+    ensures { MatchOption result (counted numbers.now ≡ false)
+        (λ c. (counted numbers.now ≡ true) × (c.points ≡ point_count numbers.now) × (c.triangles ≡ triangle_count numbers.now)) }
 {
-    let mut i = 0;
-    while i < n {
-        xs[i] = all[2 + 2 * i];
-        ys[i] = all[3 + 2 * i];
-        i += 1;
+    if numbers.len() < 2 {
+        return None;
     }
+    let points = usize::from(numbers[0]);
+    let triangles = usize::from(numbers[1]);
+    if numbers.len() != 2 + 2 * points + 3 * triangles {
+        return None;
+    }
+    Some(Counts { points, triangles })
 }
 
-pub fn fill_corners(all: &[u16], from: usize, n: usize, corners: &mut [u16])
-    requires { (from + n ≤ length all.now) × (n ≤ length corners.old) }
-    ensures { corners.new ≡ over (table (λ s. get_or all.now (from + s) 0) n) corners.old }
+// Points are pairs of x and y.
+#[tactic(auto, using(laws::proofs::Front::filling_over))]
+pub fn fill_points(points: &[u16], xs: &mut [u16], ys: &mut [u16])
+    requires { (length points.now / 2 ≤ length xs.old) × (length points.now / 2 ≤ length ys.old) }
+    ensures xs_after { xs.new ≡ over (table (λ i. get_or points.now (2 * i) 0) (length points.now / 2)) xs.old }
+    ensures ys_after { ys.new ≡ over (table (λ i. get_or points.now (2 * i + 1) 0) (length points.now / 2)) ys.old }
 {
-    let mut s = 0;
-    while s < n {
-        corners[s] = all[from + s];
-        s += 1;
+    for i in 0..points.len() / 2 {
+        xs[i] = points[2 * i];
+        ys[i] = points[2 * i + 1];
     }
 }

@@ -1,76 +1,74 @@
-// Text put into a lent buffer from a place on; each call answers the place after what it put.
+// Text put into a lent buffer, one piece after another.
 // For this crate: no public call, so a `requires` may stand.
 ghost use Rattle.std.specs.Prelude.{◌≡◌, [], ◌∷◌, ◌+◌, ◌*◌, ◌≤◌, ◌<◌, length, drop};
-ghost use Rattle.listing.specs.Code.{Put};
 ghost use Rattle.listing.specs.Line.{decimal, onward};
 
-pub fn put_bytes(out: &mut [u8], at: usize, text: &[u8]) -> usize
-    requires { at + length text.now ≤ length out.old }
-    ensures { Put out.old out.new at result text.now }
-{
-    let mut to = at;
-    let mut i = 0;
-    while i < text.len() {
-        out[to] = text[i];
-        to += 1;
-        i += 1;
+// A lent buffer, and the place up to which text is put into it.
+#[derive(Drop)]
+pub struct Line<'a> {
+    pub out: &'a mut [u8],
+    pub at: usize,
+}
+
+impl<'a> Line<'a> {
+    ghost use Rattle.listing.specs.Code.{Puts};
+
+    // Nothing is put into it yet.
+    pub fn new(out: &'a mut [u8]) -> Line<'a>
+        ensures same_reference { result.out.ghost_name ≡ out.entry.ghost_name }
+        ensures out { result.out.now ≡ out.old }
+        ensures at { result.at ≡ 0 }
+    {
+        Line { out, at: 0 }
     }
-    to
-}
 
-// A number in decimal: its last digit stands last in a buffer that holds the longest.
-pub fn put_number(out: &mut [u8], at: usize, n: u64) -> usize
-    requires { at + 20 ≤ length out.old }
-    ensures put { Put out.old out.new at result (decimal n) }
-    ensures upper_bound { result ≤ at + 20 }
-{
-    let mut digits = [0u8; 20];
-    let mut i = 20;
-    let mut rest = n;
-    while 10 <= rest {
-        i -= 1;
-        digits[i] = 48 + (rest % 10) as u8;
-        rest = rest / 10;
+    pub fn put_bytes(&mut self, text: &[u8])
+        requires { self.old.at + length text.now ≤ length self.old.out.now }
+        ensures { Puts self.old self.new text.now }
+    {
+        let end = self.at + text.len();
+        self.out[self.at..end].copy_from_slice(text);
+        self.at = end;
     }
-    i -= 1;
-    digits[i] = 48 + rest as u8;
-    put_bytes(out, at, &digits[i..])
-}
 
-// A field after the first: a space and a number.
-pub fn put_field(out: &mut [u8], at: usize, n: u64) -> usize
-    requires { at + 21 ≤ length out.old }
-    ensures put { Put out.old out.new at result (32 ∷ decimal n) }
-    ensures upper_bound { result ≤ at + 21 }
-{
-    out[at] = 32;
-    put_number(out, at + 1, n)
-}
-
-pub fn put_end(out: &mut [u8], at: usize) -> usize
-    requires { at < length out.old }
-    ensures { Put out.old out.new at result (onward []) }
-{
-    out[at] = 10;
-    at + 1
-}
-
-fn wide(n: u16) -> u64
-    ensures { result ≡ n }
-{
-    n as u64
-}
-
-// The fields of a ring, and the line's end.
-pub fn put_ring(out: &mut [u8], at: usize, ring: &[u16]) -> usize
-    requires { at + 21 * length ring.now < length out.old }
-    ensures { Put out.old out.new at result (onward ring.now) }
-{
-    let mut to = at;
-    let mut i = 0;
-    while i < ring.len() {
-        to = put_field(out, to, wide(ring[i]));
-        i += 1;
+    // A number in decimal.
+    #[tactic(auto, using(crate::proofs::Spelling::decimal_is))]
+    pub fn put_number(&mut self, n: u64)
+        requires { self.old.at + 20 ≤ length self.old.out.now }
+        ensures put { Puts self.old self.new (decimal n) }
+        ensures upper_bound { self.new.at ≤ self.old.at + 20 }
+    {
+        let mut digits = itoa::Buffer::new();
+        self.put_bytes(digits.format(n).as_bytes());
     }
-    put_end(out, to)
+
+    // A field after the first: a space and a number.
+    #[tactic(auto, using(crate::proofs::Putting::puts_two))]
+    pub fn put_field(&mut self, n: u64)
+        requires { self.old.at + 21 ≤ length self.old.out.now }
+        ensures put { Puts self.old self.new (32 ∷ decimal n) }
+        ensures upper_bound { self.new.at ≤ self.old.at + 21 }
+    {
+        self.put_bytes(b" ");
+        self.put_number(n);
+    }
+
+    #[tactic(auto, unfolding(crate::specs::Line::onward))]
+    pub fn put_end(&mut self)
+        requires { self.old.at < length self.old.out.now }
+        ensures { Puts self.old self.new (onward []) }
+    {
+        self.put_bytes(b"\n");
+    }
+
+    // The fields of a ring, and the line's end.
+    pub fn put_ring(&mut self, ring: &[u16])
+        requires { self.old.at + 21 * length ring.now < length self.old.out.now }
+        ensures { Puts self.old self.new (onward ring.now) }
+    {
+        for p in ring {
+            self.put_field(u64::from(*p));
+        }
+        self.put_end();
+    }
 }
