@@ -1,24 +1,18 @@
 // Numbers of two bytes.
 // For this crate: no public call, so a `requires` may stand.
-ghost use Rattle.std.specs.Prelude.{◌≡◌, ◌++◌, ◌+◌, ◌*◌, ◌≤◌, length, drop};
-ghost use Rattle.host.specs.Blocks.{pair, pairs};
+ghost use Rattle.std.specs.Prelude.{◌≡◌, ◌+◌, ◌/◌, ◌≤◌, length};
+ghost use Rattle.host.specs.Blocks.{pairs};
 
-fn joined(low: u8, high: u8) -> u16
-    ensures { result ≡ low + 256 * high }
+// The numbers of a block, in the front of a lent list: each is two bytes, low first, from a place on in each run of so many bytes.
+#[tactic(auto, using(laws::proofs::Fill::fills_all))]
+pub fn decode<'a>(block: &[u8], from: usize, step: usize, list: &'a mut [u16]) -> &'a [u16]
+    requires { (from + 2 ≤ step) × (length block.now / step ≤ length list.old) }
+    ensures { result.now ≡ pairs block.now from step (length block.now / step) }
 {
-    low as u16 + 256 * (high as u16)
-}
-
-// Fills the front of a list with n numbers, each two bytes low first, so many bytes apart. Later places stay as they were.
-pub fn decode(block: &[u8], from: usize, step: usize, n: usize, list: &mut [u16])
-    requires { (2 ≤ step) × (from + 2 ≤ step) × (step * n ≤ length block.now) × (n ≤ length list.old) }
-    ensures { list.new ≡ pairs block.now from step n ++ drop n list.old }
-{
-    let mut i = 0;
-    let mut at = from;
-    while i < n {
-        list[i] = joined(block[at], block[at + 1]);
-        i += 1;
-        at += step;
+    let numbers = &mut list[..block.len() / step];
+    for (i, number) in numbers.iter_mut().enumerate() {
+        let at = from + step * i;
+        *number = u16::from_le_bytes([block[at], block[at + 1]]);
     }
+    numbers
 }

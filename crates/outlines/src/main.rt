@@ -4,118 +4,114 @@
 
 ghost use Rattle.std.specs.Prelude.{◌≤◌, length};
 
-use listing::Parsed;
-use peel::{Drawn, Listed};
 use sheet::Refusal;
+use std::io;
 use std::io::{ErrorKind, Read};
 
-// Whether the output took the bytes.
-fn put(rt: &impl Print, bytes: &[u8]) -> bool {
-    match rt.write_all(bytes) {
-        Ok(()) => true,
-        Err(_) => false,
-    }
+// The lists of an office.
+#[derive(Clone, Copy)]
+struct Office<'a> {
+    xs: &'a [u16],
+    ys: &'a [u16],
+    corners: &'a [u16],
 }
 
-fn print_refusal(rt: &impl Print, refusal: Refusal) -> bool {
-    let mut line = [0u8; 64];
-    let n = listing::print_refusal(refusal, &mut line);
-    if n <= 64 {
-        return put(rt, &line[..n]);
-    }
-    false
+// What a draw of the largest office is lent.
+#[derive(Drop)]
+struct Lent {
+    kept: [u8; 2043],
+    rim: [u8; 1024],
+    ring: [u16; 1024],
 }
 
-fn print_outline(rt: &impl Print, least: u32, peeled: u32, area: u32, ring: &[u16]) -> bool {
-    let mut line = [0u8; 21567];
-    let n = listing::print_line(least, peeled, area, ring, &mut line);
-    if n <= 21567 {
-        return put(rt, &line[..n]);
-    }
-    false
+// Lays a line in a buffer and prints it; `lay` answers how many bytes it has.
+fn print_line<Lay: FnOnce(&mut [u8]) -> usize>(
+    rt: &impl Print,
+    line: &mut [u8],
+    lay: Lay,
+) -> io::Result<()>
+    requires { Lay.IsAlwaysCallable lay }
+{
+    let n = lay(line).min(line.len());
+    rt.write_all(&line[..n])
 }
 
-// The lines of the first entries: each has the outline that its least limit draws.
+fn print_refusal(rt: &impl Print, refusal: Refusal) -> io::Result<()> {
+    print_line(rt, &mut [0; 64], |line| {
+        listing::print_refusal(refusal.rule.number(), refusal.place, line)
+    })
+}
+
+// The lines of some entries: each has the outline that its least limit draws.
 fn print_entries(
     rt: &impl Print,
-    xs: &[u16],
-    ys: &[u16],
-    corners: &[u16],
+    office: &Office,
+    lent: &mut Lent,
     least: &[u32],
-    count: usize,
-    kept: &mut [u8],
-    rim: &mut [u8],
-    ring: &mut [u16],
-) {
-    let mut i = 0;
-    while i < least.len() {
-        if count <= i {
-            return;
-        }
-        let limit = least[i];
-        i += 1;
-        let drawn = peel::draw(xs, ys, corners, limit, kept, rim, ring);
-        match drawn {
-            Drawn::Refused(_) => {
-                return;
-            }
-            Drawn::Outline(tally) => {
-                if !print_outline(
-                    rt,
-                    limit,
-                    tally.peeled,
-                    tally.area,
-                    peel::outline(ring, tally),
-                ) {
-                    return;
-                }
-            }
-        }
+) -> io::Result<()> {
+    let mut line = [0; 21567];
+    for limit in least {
+        let drawn = peel::draw(
+            office.xs,
+            office.ys,
+            office.corners,
+            *limit,
+            &mut lent.kept,
+            &mut lent.rim,
+            &mut lent.ring,
+        );
+        // A listed office was accepted, and so is drawn.
+        let Ok(tally) = drawn else {
+            return Ok(());
+        };
+        let ring = peel::outline(&lent.ring, tally);
+        print_line(rt, &mut line, |line| {
+            listing::print_line(*limit, tally.peeled, tally.area, ring, line)
+        })?;
     }
+    Ok(())
 }
 
-fn print_list(rt: &impl Print, xs: &[u16], ys: &[u16], corners: &[u16]) {
-    let mut kept = [0u8; 2043];
-    let mut rim = [0u8; 1024];
-    let mut ring = [0u16; 1024];
+fn print_list(rt: &impl Print, office: &Office) -> io::Result<()> {
+    let mut lent = Lent {
+        kept: [0; 2043],
+        rim: [0; 1024],
+        ring: [0; 1024],
+    };
     let mut least = [0u32; 1022];
     let mut peeled = [0u32; 1022];
     let mut area = [0u32; 1022];
     let listed = peel::list(
-        xs,
-        ys,
-        corners,
-        &mut kept,
-        &mut rim,
-        &mut ring,
+        office.xs,
+        office.ys,
+        office.corners,
+        &mut lent.kept,
+        &mut lent.rim,
+        &mut lent.ring,
         &mut least,
         &mut peeled,
         &mut area,
     );
     match listed {
-        Listed::Refused(refusal) => {
-            print_refusal(rt, refusal);
-        }
-        Listed::Entries(count) => {
-            print_entries(
-                rt, xs, ys, corners, &least, count, &mut kept, &mut rim, &mut ring,
-            );
-        }
+        Ok(count) => print_entries(rt, office, &mut lent, &least[..count.min(1022)]),
+        Err(refusal) => print_refusal(rt, refusal),
     }
 }
 
-fn print(rt: &impl Print, text: &[u8]) {
+fn print(rt: &impl Print, text: &[u8]) -> io::Result<()> {
     let mut xs = [0u16; 16384];
     let mut ys = [0u16; 16384];
     let mut corners = [0u16; 32768];
-    let parsed = listing::parse(text, &mut xs, &mut ys, &mut corners);
-    match parsed {
-        Parsed::Refused(refusal) => {
-            print_refusal(rt, refusal);
+    match listing::parse(text, &mut xs, &mut ys, &mut corners) {
+        Ok(counts) => {
+            let office = Office {
+                xs: &xs[..counts.points],
+                ys: &ys[..counts.points],
+                corners: &corners[..3 * counts.triangles],
+            };
+            print_list(rt, &office)
         }
-        Parsed::Counts(points, triangles) => {
-            print_list(rt, &xs[..points], &ys[..points], &corners[..3 * triangles]);
-        }
+        Err(refusal) => print_refusal(rt, refusal),
     }
 }
 
@@ -144,5 +140,6 @@ fn main(rt: HostRuntime) {
     let mut text = [0u8; 65537];
     let mut input = rt.reader();
     let n = read_full(&mut input, &mut text);
-    print(&rt, &text[..n]);
+    // README.md: an output that takes no more ends it without a message, and its exit status is 0.
+    let _ = print(&rt, &text[..n]);
 }
