@@ -1,5 +1,5 @@
 -- What the code's values stand for. Assumes nothing.
-use Rattle.std.specs.Prelude.{◌≡◌, Bool, cond, ◌&&◌, List, [], ℕ, suc, ◌+◌, ◌*◌, ◌/◌, ◌%◌, ◌<◌, ◌≤◌, ltb, eqb, ℤ, pos, ◌+ℤ◌, ◌-ℤ◌, ◌*ℤ◌, length, get_or, take, drop}
+use Rattle.std.specs.Prelude.{◌≡◌, Option, Some, None, Bool, cond, ◌&&◌, List, [], ℕ, suc, ◌+◌, ◌*◌, ◌/◌, ◌%◌, ◌<◌, ◌≤◌, ltb, eqb, ℤ, pos, ◌+ℤ◌, ◌-ℤ◌, ◌*ℤ◌, length, get_or, take, drop}
 use Rattle.laws.specs.First.{first, final, table}
 use Rattle.sheet.specs.Plane.{Point, Small, spot, dx, dy, turn}
 use Rattle.sheet.specs.Office.{Office, office, bare, points, sides, point, tail, head, last, rim, mate_of}
@@ -74,6 +74,10 @@ pub record Righted (corners : List ℕ) (p : ℕ) (old mate : List ℕ) : Type 0
 abbrev pub back_along : List ℕ → ℕ → ℕ → ℕ
 back_along corners q r =
     cond (ltb r 65535) (final 65535 (λ i. starts corners (get_or corners r 0) i && ends corners q i) (suc r)) 65535
+
+-- the side that a number stands for: 65,535 is none
+abbrev pub side_of : ℕ → Option ℕ
+side_of r = cond (ltb r 65535) (Some r) None
 
 -- no triangle has a corner twice
 abbrev pub Cornered : List ℕ → Type 0

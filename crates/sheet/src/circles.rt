@@ -1,4 +1,5 @@
 // Refusal 11: a point strictly inside a triangle's circle. No public call.
+// A cast within a formula widens, and loses nothing: a `From` for each factor would hide the formula.
 ghost use Rattle.std.specs.Prelude.{◌≡◌, ◌+◌, ◌*◌, ◌/◌, ◌<◌, ◌≤◌, pos, nat_abs, ◌+ℤ◌, ◌-ℤ◌, ◌*ℤ◌, length, get_or, take};
 ghost use Rattle.std.specs.Int.Signed.{lt_z};
 ghost use Rattle.laws.specs.First.{lowest, table};
@@ -69,10 +70,11 @@ fn height_of(x: u16, y: u16) -> u32
     x as u32 * x as u32 + y as u32 * y as u32
 }
 
+// The same of a point of the grid, as a number with a sign: asked three times a circle.
 fn lifted(a: Spot) -> i64
     ensures { (result ≡ raised (at a)) × (nat_abs result ≤ 536805378) }
 {
-    height_of(a.x, a.y) as i64
+    i64::from(height_of(a.x, a.y))
 }
 
 fn circle_through(a: Spot, b: Spot, c: Spot) -> Circle

@@ -1,5 +1,6 @@
 // Layer 1, the check: is this a Delaunay triangulation of these points? Document 01, 'What makes a triangulation acceptable'.
-// Points go by their x and y lists, triangles by a flat list of three point numbers each.
+// Points go by their x and y lists, triangles by a flat list of three point numbers each. A table made here has a fixed length, since there is no
+// heap; how much of it is used, the lent lists' lengths say.
 #![tactic(auto)]
 
 pub mod circles;

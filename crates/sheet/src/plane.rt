@@ -1,4 +1,5 @@
 // Exact numbers of points. For this crate and the layers above: no public call, so a `requires` may stand.
+// A cast within a formula widens, and loses nothing: a `From` for each factor would hide the formula.
 ghost use Rattle.std.specs.Prelude.{◌≡◌, ◌<◌, length, get_or, pos, nat_abs, ◌<ℤ◌};
 ghost use Rattle.sheet.specs.Plane as plane;
 ghost use Rattle.sheet.specs.Code as Code;
@@ -31,7 +32,7 @@ pub fn dot(p: Spot, a: Spot, b: Spot) -> i32
         + (a.y as i32 - p.y as i32) * (b.y as i32 - p.y as i32)
 }
 
-// Twice the area of a triangle whose corners run counterclockwise.
+// Twice the area of a triangle whose corners run counterclockwise: the turn, as the number without a sign that areas are added up in.
 pub fn doubled(a: Spot, b: Spot, c: Spot) -> u32
     requires { pos 0 <ℤ plane.turn (at a) (at b) (at c) }
     ensures { result ≡ nat_abs (plane.turn (at a) (at b) (at c)) }

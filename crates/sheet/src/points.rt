@@ -28,6 +28,7 @@ impl<'a> Cloud<'a> {
         (0..self.xs.len()).find(|&p| self.is_large(p))
     }
 
+    // Two lists hold the points, so no derive compares them.
     fn is_same_point(&self, p: usize, q: usize) -> bool
         requires { (p < length self.now.xs.now) × (q < length self.now.xs.now) }
         ensures { result ≡ same_point (cloud_of self.now) p q }

@@ -14,6 +14,7 @@ use crate::spots::{Mesh, Plot, Spot};
 
 impl<'a> Mesh<'a> {
     // Whether the circle of triangle a b c, of which side s runs from a to b, holds the third corner beyond s, asked at the lower side of a pair.
+    // A mate that is none is the number of sides.
     fn is_held(&self, s: usize, area: i32, a: Spot, b: Spot, c: Spot) -> bool
         requires side { s < length self.now.plot.corners.now }
         requires cornering { Cornering (office_of self.now.plot) s area a.x a.y b.x b.y c.x c.y }
@@ -50,20 +51,13 @@ impl<'a> Mesh<'a> {
     }
 }
 
-// By x, then by y, for coordinates up to 16,383.
-fn key(x: u16, y: u16) -> u32
-    ensures { result ≡ x * 16384 + y }
-{
-    u32::from(x) * 16384 + u32::from(y)
-}
-
 // Whether the way a b c turns right, or b has the lowest key of the three and is not the point that may.
 fn is_wrong(a: Spot, b: Spot, c: Spot, lowest: bool) -> bool
     ensures { result ≡ (lt_z (plane.turn (at a) (at b) (at c)) (pos 0) || (ltb (b.x * 16384 + b.y) (a.x * 16384 + a.y) && ltb (b.x * 16384 + b.y) (c.x * 16384 + c.y) && not lowest)) }
 {
-    let before = key(a.x, a.y);
-    let here = key(b.x, b.y);
-    let behind = key(c.x, c.y);
+    let before = a.key();
+    let here = b.key();
+    let behind = c.key();
     (turn(a, b, c) < 0) | ((here < before) & (here < behind) & !lowest)
 }
 
@@ -71,7 +65,7 @@ impl<'a> Plot<'a> {
     // The point of the lowest key. What is proved of the tests below holds for any point.
     fn lowest_point(&self) -> usize {
         (0..self.xs.len())
-            .min_by_key(|&p| key(self.xs[p], self.ys[p]))
+            .min_by_key(|&p| self.point(p).key())
             .unwrap_or(0)
     }
 

@@ -9,14 +9,15 @@ use crate::plane::turn;
 use crate::sides::next_of;
 use crate::spots::{Mates, Mesh};
 
-// The corner at place s: 0 past the last.
+// The corner at place s: 0 past the last, since the definitions of the rim say 0 for none.
 fn corner_or_zero(corners: &[u16], s: usize) -> usize
     ensures { result ≡ get_or corners.now s 0 }
 {
     usize::from(*corners.get(s).unwrap_or(&0))
 }
 
-// Where the rim goes on from p.
+// Where the rim goes on from p. The list of first sides comes with its fact as a clause: a struct of both would have to be one with the mesh or the
+// mates beside it.
 fn onward(corners: &[u16], list: &[u16; 1024], p: usize) -> usize
     requires { (length corners.now ≤ 6129) × (p < 1024) × Leaving corners.now list.now }
     ensures { result ≡ after (bare corners.now) p }
@@ -44,7 +45,7 @@ impl<'a> Mates<'a> {
         n
     }
 
-    // The point where the first rim side starts; 0 where there is none.
+    // The point where the first rim side starts; 0 where there is none, as the definition `start` has it.
     fn rim_start(&self) -> usize
         ensures { result ≡ start (bare self.now.corners.now) }
     {

@@ -4,14 +4,16 @@ ghost use Rattle.std.specs.Prelude.{◌≡◌, true, false, cond, ◌&&◌, ℕ,
 ghost use Rattle.laws.specs.First.{final};
 ghost use Rattle.sheet.specs.Office.{bare, next, last};
 ghost use Rattle.sheet.specs.Acceptable.{Single};
-ghost use Rattle.sheet.specs.Code.{Numbered, starts, Chained, Mated, back_along, Noted, Placed, Righted};
+ghost use Rattle.sheet.specs.Code.{Numbered, starts, Chained, Mated, back_along, side_of, Noted, Placed, Righted};
 
 use crate::spots::Chain;
 
 // No side, and no point: an `Option<u16>` would take four bytes in place of two, in tables that the check makes anew at each call.
+// A side's number is below 6,129, so a cast to `u16` loses nothing.
 pub const NONE: u16 = 65535;
 
-// The place of the corner after s in its triangle: by comparing, with no quotient. One function for this and the next would compare once more.
+// The place of the corner after s in its triangle: by comparing, with no quotient. One function with a const parameter
+// would have to choose between this line and the next function's, and be longer than both.
 pub fn next_of(s: usize) -> usize
     requires { s < 65535 }
     ensures { result ≡ next s }
@@ -27,6 +29,7 @@ pub fn last_of(s: usize) -> usize
     if s % 3 == 0 { s + 2 } else { s - 1 }
 }
 
+// What is asked of the corners alone is a clause here and below, since each function asks another part of it.
 // For each side the latest earlier one from the same point, and for each point the latest side from it; 65,535 for none.
 pub fn chain_sides(corners: &[u16], earlier: &mut [u16; 6129], latest: &mut [u16; 1024])
     requires { Numbered corners.now 1024 × (length corners.now ≤ 6129) }
@@ -41,7 +44,7 @@ pub fn chain_sides(corners: &[u16], earlier: &mut [u16; 6129], latest: &mut [u16
     }
 }
 
-// Whether side s, of which 65,535 is none, starts at point p.
+// Whether side s starts at point p. A side comes as it stands in the tables, so 65,535 is none here too.
 fn is_from(corners: &[u16], p: usize, s: usize) -> bool
     requires { s < 65535 → s < length corners.now }
     ensures { result ≡ (ltb s 65535 && eqb (get_or corners.now s 0) p) }
@@ -53,7 +56,8 @@ fn is_from(corners: &[u16], p: usize, s: usize) -> bool
     false
 }
 
-// The mate of a side to point p that starts where side `noted` ends: that one where it starts at p, or the number of sides.
+// The mate of a side to point p that starts where side `noted` ends: that one where it starts at p, or the number of sides, which
+// is none in the table of mates.
 fn mate_noted(corners: &[u16], p: usize, noted: u16) -> u16
     requires { (noted < 65535 → noted < length corners.now) × (length corners.now ≤ 6129) }
     ensures { result ≡ cond (ltb noted 65535 && eqb (get_or corners.now noted 0) p) noted (length corners.now) }
@@ -66,22 +70,23 @@ fn mate_noted(corners: &[u16], p: usize, noted: u16) -> u16
 }
 
 impl<'a> Chain<'a> {
-    // Of the sides from the point where side `begun` starts, up to that side, the latest that ends at `to`; 65,535 for none.
-    pub fn run_back(&self, begun: usize, to: u16) -> usize
+    // Of the sides from the point where side `begun` starts, up to that side, the latest that ends at `to`.
+    pub fn run_back(&self, begun: usize, to: u16) -> Option<usize>
         requires { begun < 65535 → begun < length self.now.corners.now }
-        ensures { result ≡ back_along self.now.corners.now to begun }
+        ensures { result ≡ side_of (back_along self.now.corners.now to begun) }
     {
         let mut r = begun;
         while r < 65535 {
             if self.corners[next_of(r)] == to {
-                return r;
+                return Some(r);
             }
             r = usize::from(self.earlier[r]);
         }
-        65535
+        None
     }
 
-    // Notes each side from point p, of which `begun` is the latest, at the point where it ends: false where two end alike.
+    // Notes each side from point p, of which `begun` is the latest, at the point where it ends: false where two end alike. A bool and no
+    // `Result`: which side it is, a search finds after it, by document 01's order.
     fn note_ends(&self, noted: &mut [u16; 1024], p: usize, begun: usize) -> bool
         requires numbered { Numbered self.now.corners.now 1024 × (begun ≡ final 65535 (starts self.now.corners.now p) (length self.now.corners.now)) }
         requires noted_so_far { Noted self.now.corners.now p noted.old }
@@ -117,7 +122,7 @@ impl<'a> Chain<'a> {
 }
 
 // For each side the one that runs back along it, or the number of sides, and behind them what stood there; false where a directed side
-// occurs twice.
+// occurs twice. A bool here too, for the same reason.
 pub fn pair_sides(
     corners: &[u16],
     earlier: &[u16; 6129],

@@ -1,6 +1,6 @@
 // What the check's searches go over, each with what is known of it. A struct holds what its searches ask and no more, since from outside they may be
-// called alone.
-ghost use Rattle.std.specs.Prelude.{◌≡◌, ℕ, ◌%◌, ◌<◌, ◌≤◌, length, get_or};
+// called alone. The structs of lent lists derive Clone and Copy alone: nothing compares or prints them.
+ghost use Rattle.std.specs.Prelude.{◌≡◌, ℕ, ◌+◌, ◌*◌, ◌%◌, ◌<◌, ◌≤◌, length, get_or};
 ghost use Rattle.laws.specs.First.{final};
 ghost use Rattle.sheet.specs.Plane.{spot, Small};
 ghost use Rattle.sheet.specs.Office.{office};
@@ -56,6 +56,16 @@ pub struct Mesh<'a> {
     pub plot: Plot<'a>,
     pub mate: &'a [u16; 6129],
     pub ghost mated: { Mated plot.corners.now mate.now },
+}
+
+impl Spot {
+    // A number by x, and then by y.
+    pub fn key(self) -> u32
+        ensures value { result ≡ self.x * 16384 + self.y }
+        ensures bound { result < 268435456 }
+    {
+        u32::from(self.x) * 16384 + u32::from(self.y)
+    }
 }
 
 impl<'a> Plot<'a> {

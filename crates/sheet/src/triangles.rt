@@ -39,7 +39,7 @@ impl<'a> Chain<'a> {
         ensures { result ≡ any (same_side (bare self.now.corners.now) s) s }
     {
         let begun = usize::from(self.earlier[s]);
-        self.run_back(begun, self.corners[next_of(s)]) < 65535
+        self.run_back(begun, self.corners[next_of(s)]).is_some()
     }
 
     // Whether a side of triangle t also stands in an earlier triangle.
