@@ -9,7 +9,7 @@ use lib.ListN.{length}
 use Rattle.laws.proofs.Test.{and_iff, leb_iff}
 use Rattle.sheet.specs.Office.{Office, office, points, triangles}
 use Rattle.sheet.specs.Verdict.{verdict}
-use Rattle.rim.specs.declared.office.Accepted.{Accepted}
+use Rattle.rim.specs.declared.office.Taken.{Taken}
 use Rattle.rim.specs.Plan.{plan}
 use Rattle.rim.specs.Accepting.{told_hull}
 use Rattle.std.specs.Prelude.{Result, Ok, Err}
@@ -23,7 +23,7 @@ use Rattle.sheet.proofs.Accepted.{accepted_lent}
 use Rattle.peel.proofs.Outcomes.{draw_given, draw_refused, list_given, list_refused}
 
 -- the room found is the definition's, and what the check answers is the verdict
-by_verdict : (o : Office) {room enough : Bool} {x y : Result Accepted Refusal} → room ≡ enough → told_hull x ≡ verdict room o → x ≡ y → verdict enough o ≡ told_hull y
+by_verdict : (o : Office) {room enough : Bool} {x y : Result Taken Refusal} → room ≡ enough → told_hull x ≡ verdict room o → x ≡ y → verdict enough o ≡ told_hull y
 by_verdict o t e f = ap (λ b. verdict b o) (sym t) ∙ sym e ∙ ap told_hull f
 
 draw_enough : (o : Office) (kept rim round : List ℕ) → draw_room o kept rim round ≡ true → (triangles o ≤ length kept) × (points o ≤ length rim) × (points o ≤ length round)
@@ -44,20 +44,20 @@ module _ (xs ys corners : List ℕ) where
   abbrev o : Office
   o = office xs ys corners
 
-  module _ (limit : ℕ) (kept rim round : List ℕ) {room : Bool} {x : Result Accepted Refusal} (t : room ≡ draw_room (office xs [] corners) kept rim round) (e : told_hull x ≡ verdict room o) where
+  module _ (limit : ℕ) (kept rim round : List ℕ) {room : Bool} {x : Result Taken Refusal} (t : room ≡ draw_room (office xs [] corners) kept rim round) (e : told_hull x ≡ verdict room o) where
     pub draw_not : (r : Refusal) → x ≡ Err r → DrawPromise xs ys corners limit kept rim round (Err r) kept rim round
     unfolding drawing
     draw_not r f =
         let g = draw_refused xs ys corners limit kept rim round (by_verdict o t e f) in
         record { answers = sym (ap (λ a. a.answer) g); kept_is = sym (ap (λ a. a.kept) g); rim_is = sym (ap (λ a. a.rim) g); ring_is = sym (ap (λ a. a.ring) g) }
 
-    pub draw_may : (a : Accepted) → x ≡ Ok a → plan a ≡ o → (length a.corners.now / 3 ≤ length kept) × (length a.xs.now ≤ length rim) × (length a.xs.now ≤ length round)
+    pub draw_may : (a : Taken) → x ≡ Ok a → plan a.sheet ≡ o → (length a.sheet.corners.now / 3 ≤ length kept) × (length a.sheet.xs.now ≤ length rim) × (length a.sheet.xs.now ≤ length round)
     draw_may a f g =
         let (h, _, _) = (accepted_lent (draw_room o kept rim round) o a.hull).0 (by_verdict o t e f) in
         let (u, v, w) = draw_enough o kept rim round h in
         rw (ap (λ p. p.corners) g, ap (λ p. p.xs) g) (u, v, w)
 
-    pub draw_done : (a : Accepted) → x ≡ Ok a → plan a ≡ o → (n : Tally) {kept' rim' round' : List ℕ} → Outlined (plan a) (drawn (plan a) limit) kept rim round kept' rim' round' n.peeled n.area n.ring
+    pub draw_done : (a : Taken) → x ≡ Ok a → plan a.sheet ≡ o → (n : Tally) {kept' rim' round' : List ℕ} → Outlined (plan a.sheet) (drawn (plan a.sheet) limit) kept rim round kept' rim' round' n.peeled n.area n.ring
         → DrawPromise xs ys corners limit kept rim round (Ok n) kept' rim' round'
     unfolding drawing
     draw_done a f i n {kept'} {rim'} {round'} h =
@@ -71,7 +71,7 @@ module _ (xs ys corners : List ℕ) where
           ring_is = d.lent.goes ∙ sym (ap (λ a. a.ring) g);
         }
 
-  module _ (kept rim round least peeled area : List ℕ) {room : Bool} {x : Result Accepted Refusal} (t : room ≡ list_room (office xs [] corners) kept rim round least peeled area) (e : told_hull x ≡ verdict room o) where
+  module _ (kept rim round least peeled area : List ℕ) {room : Bool} {x : Result Taken Refusal} (t : room ≡ list_room (office xs [] corners) kept rim round least peeled area) (e : told_hull x ≡ verdict room o) where
     pub list_not : (r : Refusal) → x ≡ Err r → ListPromise xs ys corners kept rim round least peeled area (Err r) kept rim round least peeled area
     unfolding listing
     list_not r f =
@@ -86,17 +86,17 @@ module _ (xs ys corners : List ℕ) where
           area_is = sym (ap (λ a. a.area) g);
         }
 
-    pub list_may : (a : Accepted) → x ≡ Ok a → plan a ≡ o
-        → ((length a.corners.now / 3 ≤ length kept) × (length a.xs.now ≤ length rim) × (length a.xs.now ≤ length round))
-        × ((length a.xs.now ≤ length least + 2) × (length a.xs.now ≤ length peeled + 2) × (length a.xs.now ≤ length area + 2))
+    pub list_may : (a : Taken) → x ≡ Ok a → plan a.sheet ≡ o
+        → ((length a.sheet.corners.now / 3 ≤ length kept) × (length a.sheet.xs.now ≤ length rim) × (length a.sheet.xs.now ≤ length round))
+        × ((length a.sheet.xs.now ≤ length least + 2) × (length a.sheet.xs.now ≤ length peeled + 2) × (length a.sheet.xs.now ≤ length area + 2))
     list_may a f g =
         let (h, _, _) = (accepted_lent (list_room o kept rim round least peeled area) o a.hull).0 (by_verdict o t e f) in
         let (d, x, y, z) = list_enough o kept rim round least peeled area h in
         let (u, v, w) = draw_enough o kept rim round d in
         rw (ap (λ p. p.corners) g, ap (λ p. p.xs) g) ((u, v, w), (x, y, z))
 
-    pub list_done : (a : Accepted) → x ≡ Ok a → plan a ≡ o → (n : ℕ) {kept' rim' round' least' peeled' area' : List ℕ} → Lent (plan a) (drawn (plan a) 0) kept rim round kept' rim' round'
-        → Written (entries (plan a)) least peeled area least' peeled' area' n → ListPromise xs ys corners kept rim round least peeled area (Ok n) kept' rim' round' least' peeled' area'
+    pub list_done : (a : Taken) → x ≡ Ok a → plan a.sheet ≡ o → (n : ℕ) {kept' rim' round' least' peeled' area' : List ℕ} → Lent (plan a.sheet) (drawn (plan a.sheet) 0) kept rim round kept' rim' round'
+        → Written (entries (plan a.sheet)) least peeled area least' peeled' area' n → ListPromise xs ys corners kept rim round least peeled area (Ok n) kept' rim' round' least' peeled' area'
     unfolding listing drawing
     list_done a f i n {kept'} {rim'} {round'} {least'} {peeled'} {area'} h b =
         let d = subst (λ p. Lent p (drawn p 0) kept rim round kept' rim' round') i h in

@@ -8,7 +8,7 @@ ghost use Rattle.peel.specs.Code.{Drew, Outlined};
 
 use rim::Tally;
 use rim::answers::Step;
-use rim::office::Accepted;
+use rim::office::{Accepted, Taken};
 use rim::queue::Queue;
 use rim::step::step;
 
@@ -29,19 +29,19 @@ fn peel_all(office: &Accepted, kept: &mut [u8], rim: &mut [u8], limit: u32, begu
     }
 }
 
-// Draws the outline of an acceptable office.
+// Draws the outline of an acceptable office. Listing has the like of its own: it answers a count, and lends three lists more.
 pub fn draw_accepted(
-    office: &Accepted,
+    office: &Taken,
     limit: u32,
     kept: &mut [u8],
     rim: &mut [u8],
     ring: &mut [u16],
 ) -> Tally
-    requires { (length office.now.corners.now / 3 ≤ length kept.old) × (length office.now.xs.now ≤ length rim.old) × (length office.now.xs.now ≤ length ring.old) }
-    ensures { Outlined (plan office.now) (peeling.drawn (plan office.now) limit) kept.old rim.old ring.old kept.new rim.new ring.new result.peeled result.area result.ring }
+    requires { (length office.now.sheet.corners.now / 3 ≤ length kept.old) × (length office.now.sheet.xs.now ≤ length rim.old) × (length office.now.sheet.xs.now ≤ length ring.old) }
+    ensures { Outlined (plan office.now.sheet) (peeling.drawn (plan office.now.sheet) limit) kept.old rim.old ring.old kept.new rim.new ring.new result.peeled result.area result.ring }
 {
     let begun = office.begin(kept, rim);
-    let tally = peel_all(office, kept, rim, limit, begun);
-    office.lay_ring(kept, rim, tally, ring);
+    let tally = peel_all(&office.sheet, kept, rim, limit, begun);
+    office.sheet.lay_ring(kept, rim, tally, ring);
     tally
 }

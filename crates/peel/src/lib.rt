@@ -11,7 +11,7 @@ ghost use Rattle.peel.specs.Answer.{used, DrawPromise, ListPromise};
 use drawing::draw_accepted;
 use listing::list_accepted;
 pub use rim::Tally;
-use rim::office::Accepted;
+use rim::office::Taken;
 use room::{draw_room, list_room};
 use sheet::Refusal;
 
@@ -30,7 +30,7 @@ pub fn draw(
 {
     let room = draw_room(xs.len(), corners.len(), kept.len(), rim.len(), ring.len());
     let mut mate = [0u16; 6129];
-    let office = Accepted::check(xs, ys, corners, room, &mut mate)?;
+    let office = Taken::check(xs, ys, corners, room, &mut mate)?;
     Ok(draw_accepted(&office, limit, kept, rim, ring))
 }
 
@@ -71,6 +71,6 @@ pub fn list(
         area.len(),
     );
     let mut mate = [0u16; 6129];
-    let office = Accepted::check(xs, ys, corners, room, &mut mate)?;
+    let office = Taken::check(xs, ys, corners, room, &mut mate)?;
     Ok(list_accepted(&office, kept, rim, ring, least, peeled, area))
 }

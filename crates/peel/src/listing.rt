@@ -9,11 +9,11 @@ ghost use Rattle.peel.specs.Code.{Drew, entries_on, Noted, Lent, Written};
 
 use rim::Tally;
 use rim::answers::Step;
-use rim::office::Accepted;
+use rim::office::{Accepted, Taken};
 use rim::queue::Queue;
 use rim::step::step;
 
-// Writes an entry at place i: its least limit, and the tally that it has.
+// The three lists of entries come one by one, as they are lent. Writes an entry at place i: its least limit, and the tally that it has.
 fn note(least: &mut [u32], peeled: &mut [u32], area: &mut [u32], i: usize, limit: u32, tally: Tally)
     requires { (i < length least.old) × (i < length peeled.old) × (i < length area.old) }
     ensures { (least.new ≡ set least.old i limit) × (peeled.new ≡ set peeled.old i tally.peeled) × (area.new ≡ set area.old i tally.area) }
@@ -25,6 +25,7 @@ fn note(least: &mut [u32], peeled: &mut [u32], area: &mut [u32], i: usize, limit
 
 // Peels until nothing is removable, and writes an entry before each peel that is shorter than all before, and one at the end; how many entries, and
 // the tally of the last. A loop of its own, and no closure that `peel_all` calls: a clause of that would have to say what each call leaves.
+// No squared length is as large as the first `shortest`, so the first peel has its entry.
 fn list_all(
     office: &Accepted,
     kept: &mut [u8],
@@ -64,7 +65,7 @@ fn list_all(
 
 // Lists all outlines of an acceptable office; how many there are.
 pub fn list_accepted(
-    office: &Accepted,
+    office: &Taken,
     kept: &mut [u8],
     rim: &mut [u8],
     ring: &mut [u16],
@@ -72,13 +73,13 @@ pub fn list_accepted(
     peeled: &mut [u32],
     area: &mut [u32],
 ) -> usize
-    requires marks_fit { (length office.now.corners.now / 3 ≤ length kept.old) × (length office.now.xs.now ≤ length rim.old) × (length office.now.xs.now ≤ length ring.old) }
-    requires entries_fit { (length office.now.xs.now ≤ length least.old + 2) × (length office.now.xs.now ≤ length peeled.old + 2) × (length office.now.xs.now ≤ length area.old + 2) }
-    ensures lent { Lent (plan office.now) (peeling.drawn (plan office.now) 0) kept.old rim.old ring.old kept.new rim.new ring.new }
-    ensures written { Written (entries (plan office.now)) least.old peeled.old area.old least.new peeled.new area.new result }
+    requires marks_fit { (length office.now.sheet.corners.now / 3 ≤ length kept.old) × (length office.now.sheet.xs.now ≤ length rim.old) × (length office.now.sheet.xs.now ≤ length ring.old) }
+    requires entries_fit { (length office.now.sheet.xs.now ≤ length least.old + 2) × (length office.now.sheet.xs.now ≤ length peeled.old + 2) × (length office.now.sheet.xs.now ≤ length area.old + 2) }
+    ensures lent { Lent (plan office.now.sheet) (peeling.drawn (plan office.now.sheet) 0) kept.old rim.old ring.old kept.new rim.new ring.new }
+    ensures written { Written (entries (plan office.now.sheet)) least.old peeled.old area.old least.new peeled.new area.new result }
 {
     let begun = office.begin(kept, rim);
-    let (count, tally) = list_all(office, kept, rim, begun, least, peeled, area);
-    office.lay_ring(kept, rim, tally, ring);
+    let (count, tally) = list_all(&office.sheet, kept, rim, begun, least, peeled, area);
+    office.sheet.lay_ring(kept, rim, tally, ring);
     count
 }

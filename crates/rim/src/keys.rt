@@ -1,6 +1,6 @@
 // The order of sides in numbers, by which those that wait are compared. A coordinate has 14 bits and a squared length 30: packed by powers of two, a key
 // is below 2^58. Here alone a number has 64 bits, and none of them is a product of two that vary.
-// For this crate and the layer above: no public call, so a `requires` may stand.
+// For this crate: no public call, so a `requires` may stand.
 ghost use Rattle.std.specs.Prelude.{◌≡◌, ◌*◌, ◌/◌, ◌<◌, ltb, length};
 ghost use Rattle.sheet.specs.Office.{point, tail};
 ghost use Rattle.rim.specs.Heap.{packed, rank};
@@ -30,13 +30,12 @@ pub fn length_of(key: Key) -> u32
 }
 
 impl<'a> Accepted<'a> {
-    // The point at place s, by x and then by y. The check has the like for a test of its own, which is no promise to this layer.
+    // The point at place s, by x and then by y.
     fn spot_at(&self, s: usize) -> u32
         requires { s < length self.now.corners.now }
         ensures { (result ≡ packed (point (plan self.now) (tail (plan self.now) s))) × (result < 268435456) }
     {
-        let corner = self.corner(s);
-        u32::from(corner.x) * 16384 + u32::from(corner.y)
+        self.corner(s).key()
     }
 
     pub(crate) fn keyed(&self, side: u16) -> Keyed
@@ -68,7 +67,7 @@ impl<'a> Accepted<'a> {
         self.second_of(usize::from(s)) < self.second_of(usize::from(r))
     }
 
-    // Whether one side goes before another.
+    // Whether one side goes before another. No derived order: the second ends are looked up in the office, and only where the keys are equal.
     pub(crate) fn outranks(&self, one: Keyed, other: Keyed) -> bool
         requires { Known (plan self.now) one × Known (plan self.now) other }
         ensures { result ≡ ltb (rank (plan self.now) other.side) (rank (plan self.now) one.side) }

@@ -1,5 +1,5 @@
 // Layer 2, one peel on the rim: the marks and the tally before the first peel, a step, and the ring. Document 01, 'Peeling'.
-// For the layers above: no public call, so a `requires` may stand.
+// For the layers above: no public call, so a `requires` may stand. A mark is a byte of lent memory, 1 or 0, so it stays a number.
 #![tactic(auto)]
 
 pub mod answers;

@@ -1,4 +1,4 @@
-// An office that the check accepts, with its mates and the length of its rim, as the check hands them on.
+// An office that the check accepts, with its mates and the length of its rim, as the check hands them on. For this crate and the layer above.
 ghost use Rattle.std.specs.Prelude.{◌≡◌, length, take};
 ghost use Rattle.laws.specs.First.{table};
 ghost use Rattle.sheet.specs.Office.{office, mate_of, rims};
@@ -6,20 +6,27 @@ ghost use Rattle.sheet.specs.Acceptable.{Acceptable};
 
 use sheet::{Refusal, check_mates};
 
-// The points' coordinates, three corners a triangle, for each side the one that runs back along it, and how many sides the rim has.
+// The points' coordinates, three corners a triangle, and for each side the one that runs back along it. Nobody compares lent lists, so
+// this and the next derive Clone and Copy alone.
 #[derive(Clone, Copy)]
 pub struct Accepted<'a> {
     pub xs: &'a [u16],
     pub ys: &'a [u16],
     pub corners: &'a [u16],
     pub mate: &'a [u16; 6129],
-    pub hull: usize,
     pub ghost acceptable: { ∥ Acceptable (office xs.now ys.now corners.now) ∥₁ },
     pub ghost mates: { take (length corners.now) mate.now ≡ table (mate_of corners.now) (length corners.now) },
-    pub ghost hull_is: { hull ≡ rims (office xs.now ys.now corners.now) },
 }
 
-impl<'a> Accepted<'a> {
+// The same, and how many sides the rim has: what is asked before the first peel alone.
+#[derive(Clone, Copy)]
+pub struct Taken<'a> {
+    pub sheet: Accepted<'a>,
+    pub hull: usize,
+    pub ghost hull_is: { hull ≡ rims (office sheet.xs.now sheet.ys.now sheet.corners.now) },
+}
+
+impl<'a> Taken<'a> {
     ghost use Rattle.sheet.specs.Verdict.{verdict};
     ghost use Rattle.rim.specs.Accepting.{told_hull, Takes};
 
@@ -30,17 +37,17 @@ impl<'a> Accepted<'a> {
         corners: &'a [u16],
         room: bool,
         mate: &'a mut [u16; 6129],
-    ) -> Result<Accepted<'a>, Refusal>
+    ) -> Result<Taken<'a>, Refusal>
         ensures result_value { told_hull result ≡ verdict room (office xs.now ys.now corners.now) }
         ensures lists { Takes xs.now ys.now corners.now result }
     {
         let hull = check_mates(xs, ys, corners, room, mate)?;
-        Ok(Accepted {
+        let sheet = Accepted {
             xs,
             ys,
             corners,
             mate,
-            hull,
-        })
+        };
+        Ok(Taken { sheet, hull })
     }
 }

@@ -1,5 +1,6 @@
 // The sides that wait to be peeled: a binary heap of their places, with the key of each beside it. The side that goes before all others
 // stands first. No more wait than the rim has sides, so 1,024 places are enough.
+// That it is a heap, and that a key is its side's, stay clauses: the order is the office's, which the queue does not hold.
 // For the layer above: no public call, so a `requires` may stand.
 ghost use Rattle.std.specs.Prelude.{◌≡◌, ◌+◌, ◌/◌, ◌<◌, ◌≤◌, length, get_or, set};
 ghost use Rattle.sheet.specs.Office.{next, last};
@@ -16,9 +17,9 @@ use sheet::sides::{last_of, next_of};
 // The places of the sides and their keys, in two lists, since a side takes 10 bytes so and would take 16 as a pair; and how many wait.
 #[derive(Drop)]
 pub struct Queue {
-    places: [u16; 1024],
-    keys: [Key; 1024],
-    waiting: usize,
+    pub places: [u16; 1024],
+    pub keys: [Key; 1024],
+    pub waiting: usize,
 }
 
 impl Queue {
@@ -137,7 +138,7 @@ impl Queue {
 
     // Of the mates of the two other sides of side s's triangle, puts those that are not stuck in the place of the first. Where both are stuck the
     // first stays: it is stuck too by now, and dropped when it is met.
-    pub fn join(&mut self, office: &Accepted, rim: &[u8], s: usize)
+    pub(crate) fn join(&mut self, office: &Accepted, rim: &[u8], s: usize)
         requires heaped { Heaped (plan office.now) self.old × (0 < self.old.waiting) × (self.old.waiting < 1024) × (length office.now.xs.now ≤ length rim.now) }
         requires s_in_bounds { (s < length office.now.corners.now) × (get_or office.now.mate.now (next s) 0 < length office.now.corners.now) × (get_or office.now.mate.now (last s) 0 < length office.now.corners.now) }
         ensures { Joined (plan office.now) rim.now self.old.places self.new.places self.new.keys self.old.waiting self.new.waiting (get_or office.now.mate.now (next s) 0) (get_or office.now.mate.now (last s) 0) }
@@ -162,7 +163,7 @@ impl Queue {
 
     // The side to peel next, which then stands first. Sides before it whose triangle's third corner is on the rim are dropped: they are not removable
     // any more.
-    pub fn next_side(&mut self, office: &Accepted, kept: &[u8], rim: &[u8]) -> Option<Side>
+    pub(crate) fn next_side(&mut self, office: &Accepted, kept: &[u8], rim: &[u8]) -> Option<Side>
         requires { Held (plan office.now) office.now.mate.now kept.now rim.now × (self.old.waiting ≤ 1024) × Waits (plan office.now) (front office.now.corners.now kept.now) self.old }
         ensures { Next (plan office.now) (front office.now.corners.now kept.now) self.new.places self.new.keys self.new.waiting result }
     {

@@ -8,7 +8,7 @@ ghost use Rattle.rim.specs.Plan.{plan};
 ghost use Rattle.rim.specs.Peel as peeling;
 
 use crate::Tally;
-use crate::office::Accepted;
+use crate::office::{Accepted, Taken};
 use sheet::sides::next_of;
 
 impl<'a> Accepted<'a> {
@@ -46,16 +46,18 @@ impl<'a> Accepted<'a> {
             self.mark_side(kept, rim, s);
         }
     }
+}
 
+impl<'a> Taken<'a> {
     // The state before the first peel. A mark is the byte 1 or 0, as document 01 lends it.
     pub fn begin(&self, kept: &mut [u8], rim: &mut [u8]) -> Tally
-        requires { (length self.now.corners.now / 3 ≤ length kept.old) × (length self.now.xs.now ≤ length rim.old) }
-        ensures state { State (plan self.now) self.now.mate.now kept.new rim.new result.peeled result.area result.ring × (result.peeled ≡ 0) }
-        ensures rest_unchanged { (drop (length self.now.corners.now / 3) kept.new ≡ drop (length self.now.corners.now / 3) kept.old) × (drop (length self.now.xs.now) rim.new ≡ drop (length self.now.xs.now) rim.old) }
+        requires { (length self.now.sheet.corners.now / 3 ≤ length kept.old) × (length self.now.sheet.xs.now ≤ length rim.old) }
+        ensures state { State (plan self.now.sheet) self.now.sheet.mate.now kept.new rim.new result.peeled result.area result.ring × (result.peeled ≡ 0) }
+        ensures rest_unchanged { (drop (length self.now.sheet.corners.now / 3) kept.new ≡ drop (length self.now.sheet.corners.now / 3) kept.old) × (drop (length self.now.sheet.xs.now) rim.new ≡ drop (length self.now.sheet.xs.now) rim.old) }
     {
-        kept[..self.corners.len() / 3].fill(1);
-        self.mark_rim(kept, rim);
-        let area = self.area_all();
+        kept[..self.sheet.corners.len() / 3].fill(1);
+        self.sheet.mark_rim(kept, rim);
+        let area = self.sheet.area_all();
         Tally::fresh(area, self.hull)
     }
 }

@@ -10,7 +10,8 @@ use crate::queue::Queue;
 use sheet::sides::last_of;
 
 // Peels the side to peel next where it is longer than the limit. Both lists of marks come as they are lent: with a struct of the two, each contract
-// would also have to say that they are still the same lists.
+// would also have to say that they are still the same lists. `State`
+// stays a clause, since it speaks of the marks, the tally and the office at once.
 pub fn step(
     office: &Accepted,
     kept: &mut [u8],

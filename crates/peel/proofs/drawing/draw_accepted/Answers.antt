@@ -6,4 +6,4 @@ use Rattle.peel.proofs.drawing.draw_accepted.Goals as goal
 pub returns : goal.returns
 returns c =
     let a = c.args in
-    drawn_all (plan a.office.now) _ a.kept.now a.rim.now a.ring.now (c.begin-begun.ensures.state, c.begin-begun.ensures.rest_unchanged) c.peel_all-tally.ensures c.lay_ring.ensures
+    drawn_all (plan a.office.now.sheet) _ a.kept.now a.rim.now a.ring.now (c.begin-begun.ensures.state, c.begin-begun.ensures.rest_unchanged) c.peel_all-tally.ensures c.lay_ring.ensures
