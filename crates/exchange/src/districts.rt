@@ -35,6 +35,7 @@ pub fn are_rings(xs: &[u16], ys: &[u16], lengths: &[u16]) -> bool
             .all(|n| writer::is_ring_length(usize::from(*n)))
 }
 
+// A polygon's head has one count more, and is put in shape.
 fn put_district_head(out: &mut [u8], count: usize)
     requires in_bounds { 9 ≤ length out.old }
     requires count_bound { count ≤ 32 }

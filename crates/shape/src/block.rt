@@ -55,6 +55,7 @@ impl ByteOrder {
     }
 }
 
+// Bytes in a byte order. Nobody compares lent lists, so it derives Clone and Copy alone.
 #[derive(Clone, Copy)]
 pub struct Block<'a> {
     pub bytes: &'a [u8],

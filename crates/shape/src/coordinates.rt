@@ -76,7 +76,7 @@ impl Block<'_> {
     }
 }
 
-// The two floats of sixteen bytes, under any byte for a byte order: so its promise has always been.
+// The two floats of sixteen bytes, under any byte for a byte order: docs/PROMISES.md names it so.
 pub fn position_at(s: &[u8], order: u8, at: usize) -> Position
     requires { at + 16 ≤ length s.now }
     ensures { (result.x ≡ float_at order s.now at) × (result.y ≡ float_at order s.now (at + 8)) }
@@ -104,6 +104,7 @@ impl Coordinate {
         self.grid_number().map_err(|rule| rule.at(place))
     }
 
+    // 0 where there is none, as `grid_of` has it.
     fn grid_or_0(self) -> u16
         ensures { result ≡ grid_of self }
     {
@@ -116,7 +117,7 @@ pub fn position_of(x: u16, y: u16) -> Position
     ensures { (result.x ≡ of_int binary64 (pos x)) × (result.y ≡ of_int binary64 (pos y)) }
 {
     Position {
-        x: x as f64,
-        y: y as f64,
+        x: f64::from(x),
+        y: f64::from(y),
     }
 }

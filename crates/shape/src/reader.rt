@@ -81,7 +81,7 @@ impl Block<'_> {
     }
 
     // Fills the lists with the grid numbers of n positions from a place on.
-    fn fill(&self, at: usize, n: usize, xs: &mut [u16], ys: &mut [u16])
+    pub fn fill(&self, at: usize, n: usize, xs: &mut [u16], ys: &mut [u16])
         requires n_in_bounds { at + 16 * n ≤ length self.now.bytes.now }
         requires lists_in_bounds { (n ≤ length xs.old) × (n ≤ length ys.old) }
         ensures xs_after { xs.new ≡ sets xs.old 0 (grids n (code self.now.order) self.now.bytes.now at) }
@@ -124,7 +124,7 @@ impl Block<'_> {
     }
 }
 
-// What stands against the position at a place, under any byte for a byte order: so its promise has always been.
+// What stands against the position at a place, under any byte for a byte order: docs/PROMISES.md names it so.
 pub fn position_fault(s: &[u8], order: u8, at: usize) -> Result<(), Refusal>
     requires { at ≤ length s.now }
     ensures { reply result ≡ asked (coordinates 2 order s.now at) tt }

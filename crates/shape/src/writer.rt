@@ -1,4 +1,4 @@
-// A ring put into an output.
+// A ring put into an output. The two lists of a ring come one by one, as the public calls are lent them.
 // For the layer above: no public call, so a `requires` may stand.
 ghost use Rattle.std.specs.Prelude.{◌≡◌, ◌+◌, ◌*◌, ◌≤◌, not, ◌&&◌, T, ◌++◌, length, ◌==◌, is_nan, nat_le, to_bits};
 ghost use Rattle.std.proofs.lemmas.List.Edits.{sets};
