@@ -6,7 +6,7 @@ ghost use Rattle.host.specs.Polygon.{along, writes};
 
 use sheet::Refusal;
 
-// The coordinates of a ring's points, in the front of a lent list; 0 for a number that no point has.
+// The coordinates of a ring's points, in the front of a lent list; 0 for a number that no point has, as the definition `along` has it.
 fn follow<'a>(coordinates: &[u16], ring: &[u16], list: &'a mut [u16]) -> &'a [u16]
     requires { length ring.now ≤ length list.old }
     ensures { result.now ≡ along coordinates.now ring.now }

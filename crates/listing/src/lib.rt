@@ -48,7 +48,7 @@ pub fn parse(
 }
 
 // Prints an entry's line at the front: least limit, triangles peeled, doubled area, ring. Answers its bytes and touches none past them; where
-// there is no room for every line of so many fields, answers 0 and writes nothing.
+// there is no room for every line of so many fields, answers 0 and writes nothing, as `printed` has it.
 pub fn print_line(least: u32, peeled: u32, area: u32, ring: &[u16], out: &mut [u8]) -> usize
     ensures value { result ≡ printed (length ring.now + 3) (line least peeled area ring.now) out.old }
     ensures out_after { out.new ≡ after_print (length ring.now + 3) (line least peeled area ring.now) out.old }

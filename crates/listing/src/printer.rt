@@ -1,4 +1,4 @@
-// Text put into a lent buffer, one piece after another.
+// Text put into a lent buffer, one piece after another: there is no heap, and so no text to print into.
 // For this crate: no public call, so a `requires` may stand.
 ghost use Rattle.std.specs.Prelude.{◌≡◌, [], ◌∷◌, ◌+◌, ◌*◌, ◌≤◌, ◌<◌, length, drop};
 ghost use Rattle.listing.specs.Line.{decimal, onward};

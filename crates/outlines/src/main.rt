@@ -8,7 +8,7 @@ use sheet::Refusal;
 use std::io;
 use std::io::{ErrorKind, Read};
 
-// The lists of an office.
+// The lists of an office. Nobody compares lent lists, so it derives Clone and Copy alone.
 #[derive(Clone, Copy)]
 struct Office<'a> {
     xs: &'a [u16],
@@ -115,7 +115,8 @@ fn print(rt: &impl Print, text: &[u8]) -> io::Result<()> {
     }
 }
 
-// Reads until the text is full, the input ends or a read fails; answers how many bytes were read.
+// Reads until the text is full, the input ends or a read fails; answers how many bytes were read. A read may be interrupted any
+// number of times, so the loop has a bound that no run reaches.
 fn read_full<R: Read>(reader: &mut R, text: &mut [u8]) -> usize
     ensures { result ≤ length text.new }
 {

@@ -1,5 +1,5 @@
 // One thin function for each public call, for programs in other languages that compare or measure the library. Lent memory is passed on as it
-// is. Answers go into four lent numbers: 0 and the values, or 1, the refusal's number and its place.
+// is. Answers go into four lent numbers, since C takes no `Result`: 0 and the values, or 1, the refusal's number and its place.
 #![tactic(auto)]
 
 use exchange::Coordinate;
