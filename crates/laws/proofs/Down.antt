@@ -16,16 +16,6 @@ pub record Since (test : ℕ → Bool) (n s r : ℕ) : Type 0 where
 pub since_none : {test : ℕ → Bool} {n : ℕ} → Since test n n n
 since_none = record { within = omega arith; clear = λ i a b. absurd (omega arith); hit = λ l. absurd (omega arith) }
 
-pub since_hit : {test : ℕ → Bool} {n s : ℕ} → s < n → test s ≡ true → Since test n s s
-since_hit l e = record { within = omega arith; clear = λ i a b. absurd (omega arith); hit = λ _. e }
-
-pub since_miss : {test : ℕ → Bool} {n s r : ℕ} → Since test n (s + 1) r → test s ≡ false → Since test n s r
-since_miss {test} {n} {s} h e = record {
-  within = h.within;
-  clear = λ i a b. elim (ℕ_discrete i s) [ yes z ↦ ap test z ∙ e | no f ↦ h.clear i (omega arith) b ];
-  hit = h.hit;
-}
-
 pub since_all : (test : ℕ → Bool) (n r : ℕ) → Since test n 0 r → r ≡ first test n
 since_all test n r h = elim (dec_lt r n) [
   | yes l ↦ sym (first_hit test n r l (λ i b. h.clear i (omega arith) b) (h.hit l))
