@@ -10,7 +10,7 @@ use Rattle.laws.proofs.Test.{and_iff, leb_iff}
 use Rattle.sheet.specs.Office.{Office, office, points, triangles}
 use Rattle.sheet.specs.Verdict.{verdict}
 use Rattle.rim.specs.declared.office.Taken.{Taken}
-use Rattle.rim.specs.Plan.{plan}
+use Rattle.rim.specs.Values.{office_of}
 use Rattle.rim.specs.Accepting.{told_hull}
 use Rattle.std.specs.Prelude.{Result, Ok, Err}
 use Rattle.sheet.specs.declared.refusal.Refusal.{Refusal}
@@ -51,13 +51,13 @@ module _ (xs ys corners : List ℕ) where
         let g = draw_refused xs ys corners limit kept rim round (by_verdict o t e f) in
         record { answers = sym (ap (λ a. a.answer) g); kept_is = sym (ap (λ a. a.kept) g); rim_is = sym (ap (λ a. a.rim) g); ring_is = sym (ap (λ a. a.ring) g) }
 
-    pub draw_may : (a : Taken) → x ≡ Ok a → plan a.sheet ≡ o → (length a.sheet.corners.now / 3 ≤ length kept) × (length a.sheet.xs.now ≤ length rim) × (length a.sheet.xs.now ≤ length round)
+    pub draw_may : (a : Taken) → x ≡ Ok a → office_of a.sheet ≡ o → (length a.sheet.corners.now / 3 ≤ length kept) × (length a.sheet.xs.now ≤ length rim) × (length a.sheet.xs.now ≤ length round)
     draw_may a f g =
         let (h, _, _) = (accepted_lent (draw_room o kept rim round) o a.hull).0 (by_verdict o t e f) in
         let (u, v, w) = draw_enough o kept rim round h in
         rw (ap (λ p. p.corners) g, ap (λ p. p.xs) g) (u, v, w)
 
-    pub draw_done : (a : Taken) → x ≡ Ok a → plan a.sheet ≡ o → (n : Tally) {kept' rim' round' : List ℕ} → Outlined (plan a.sheet) (drawn (plan a.sheet) limit) kept rim round kept' rim' round' n.peeled n.area n.ring
+    pub draw_done : (a : Taken) → x ≡ Ok a → office_of a.sheet ≡ o → (n : Tally) {kept' rim' round' : List ℕ} → Outlined (office_of a.sheet) (drawn (office_of a.sheet) limit) kept rim round kept' rim' round' n.peeled n.area n.ring
         → DrawPromise xs ys corners limit kept rim round (Ok n) kept' rim' round'
     unfolding drawing
     draw_done a f i n {kept'} {rim'} {round'} h =
@@ -86,7 +86,7 @@ module _ (xs ys corners : List ℕ) where
           area_is = sym (ap (λ a. a.area) g);
         }
 
-    pub list_may : (a : Taken) → x ≡ Ok a → plan a.sheet ≡ o
+    pub list_may : (a : Taken) → x ≡ Ok a → office_of a.sheet ≡ o
         → ((length a.sheet.corners.now / 3 ≤ length kept) × (length a.sheet.xs.now ≤ length rim) × (length a.sheet.xs.now ≤ length round))
         × ((length a.sheet.xs.now ≤ length least + 2) × (length a.sheet.xs.now ≤ length peeled + 2) × (length a.sheet.xs.now ≤ length area + 2))
     list_may a f g =
@@ -95,8 +95,8 @@ module _ (xs ys corners : List ℕ) where
         let (u, v, w) = draw_enough o kept rim round d in
         rw (ap (λ p. p.corners) g, ap (λ p. p.xs) g) ((u, v, w), (x, y, z))
 
-    pub list_done : (a : Taken) → x ≡ Ok a → plan a.sheet ≡ o → (n : ℕ) {kept' rim' round' least' peeled' area' : List ℕ} → Lent (plan a.sheet) (drawn (plan a.sheet) 0) kept rim round kept' rim' round'
-        → Written (entries (plan a.sheet)) least peeled area least' peeled' area' n → ListPromise xs ys corners kept rim round least peeled area (Ok n) kept' rim' round' least' peeled' area'
+    pub list_done : (a : Taken) → x ≡ Ok a → office_of a.sheet ≡ o → (n : ℕ) {kept' rim' round' least' peeled' area' : List ℕ} → Lent (office_of a.sheet) (drawn (office_of a.sheet) 0) kept rim round kept' rim' round'
+        → Written (entries (office_of a.sheet)) least peeled area least' peeled' area' n → ListPromise xs ys corners kept rim round least peeled area (Ok n) kept' rim' round' least' peeled' area'
     unfolding listing drawing
     list_done a f i n {kept'} {rim'} {round'} {least'} {peeled'} {area'} h b =
         let d = subst (λ p. Lent p (drawn p 0) kept rim round kept' rim' round') i h in

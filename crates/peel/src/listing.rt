@@ -2,7 +2,7 @@
 // For this crate: no public call, so a `requires` may stand.
 ghost use Rattle.std.specs.Prelude.{◌≡◌, ◌+◌, ◌/◌, ◌<◌, ◌≤◌, length, set};
 ghost use Rattle.rim.specs.Code.{State};
-ghost use Rattle.rim.specs.Plan.{plan};
+ghost use Rattle.rim.specs.Values.{office_of};
 ghost use Rattle.rim.specs.Peel as peeling;
 ghost use Rattle.peel.specs.List.{entries};
 ghost use Rattle.peel.specs.Code.{Drew, entries_on, Noted, Lent, Written};
@@ -35,10 +35,10 @@ fn list_all(
     peeled: &mut [u32],
     area: &mut [u32],
 ) -> (usize, Tally)
-    requires state { State (plan office.now) office.now.mate.now kept.old rim.old begun.peeled begun.area begun.ring }
-    requires peeled_in_bounds { (length (entries_on (plan office.now) kept.old begun.peeled) ≤ length least.old) × (length (entries_on (plan office.now) kept.old begun.peeled) ≤ length peeled.old) × (length (entries_on (plan office.now) kept.old begun.peeled) ≤ length area.old) }
-    ensures drew { Drew (plan office.now) 0 office.now.mate.now kept.old rim.old begun.peeled kept.new rim.new result.1.peeled result.1.area result.1.ring }
-    ensures noted { Noted (entries_on (plan office.now) kept.old begun.peeled) least.old peeled.old area.old least.new peeled.new area.new result.0 }
+    requires state { State (office_of office.now) office.now.mate.now kept.old rim.old begun.peeled begun.area begun.ring }
+    requires peeled_in_bounds { (length (entries_on (office_of office.now) kept.old begun.peeled) ≤ length least.old) × (length (entries_on (office_of office.now) kept.old begun.peeled) ≤ length peeled.old) × (length (entries_on (office_of office.now) kept.old begun.peeled) ≤ length area.old) }
+    ensures drew { Drew (office_of office.now) 0 office.now.mate.now kept.old rim.old begun.peeled kept.new rim.new result.1.peeled result.1.area result.1.ring }
+    ensures noted { Noted (entries_on (office_of office.now) kept.old begun.peeled) least.old peeled.old area.old least.new peeled.new area.new result.0 }
 {
     let mut queue = Queue::of_rim(office, kept);
     let mut tally = begun;
@@ -75,8 +75,8 @@ pub fn list_accepted(
 ) -> usize
     requires marks_fit { (length office.now.sheet.corners.now / 3 ≤ length kept.old) × (length office.now.sheet.xs.now ≤ length rim.old) × (length office.now.sheet.xs.now ≤ length ring.old) }
     requires entries_fit { (length office.now.sheet.xs.now ≤ length least.old + 2) × (length office.now.sheet.xs.now ≤ length peeled.old + 2) × (length office.now.sheet.xs.now ≤ length area.old + 2) }
-    ensures lent { Lent (plan office.now.sheet) (peeling.drawn (plan office.now.sheet) 0) kept.old rim.old ring.old kept.new rim.new ring.new }
-    ensures written { Written (entries (plan office.now.sheet)) least.old peeled.old area.old least.new peeled.new area.new result }
+    ensures lent { Lent (office_of office.now.sheet) (peeling.drawn (office_of office.now.sheet) 0) kept.old rim.old ring.old kept.new rim.new ring.new }
+    ensures written { Written (entries (office_of office.now.sheet)) least.old peeled.old area.old least.new peeled.new area.new result }
 {
     let begun = office.begin(kept, rim);
     let (count, tally) = list_all(&office.sheet, kept, rim, begun, least, peeled, area);

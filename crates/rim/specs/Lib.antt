@@ -2,5 +2,5 @@ pub mod Peel
 pub mod Reached
 pub mod Code
 pub mod Heap
-pub mod Plan
+pub mod Values
 pub mod Accepting

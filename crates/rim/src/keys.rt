@@ -5,7 +5,7 @@ ghost use Rattle.std.specs.Prelude.{◌≡◌, ◌*◌, ◌/◌, ◌<◌, ltb, l
 ghost use Rattle.sheet.specs.Office.{point, tail};
 ghost use Rattle.rim.specs.Heap.{packed, rank};
 ghost use Rattle.rim.specs.Heap as Heap;
-ghost use Rattle.rim.specs.Plan.{plan, Known};
+ghost use Rattle.rim.specs.Values.{office_of, Known};
 ghost use Rattle.rim.specs.Peel as peeling;
 
 use crate::office::Accepted;
@@ -33,14 +33,14 @@ impl<'a> Accepted<'a> {
     // The point at place s, by x and then by y.
     fn spot_at(&self, s: usize) -> u32
         requires { s < length self.now.corners.now }
-        ensures { (result ≡ packed (point (plan self.now) (tail (plan self.now) s))) × (result < 268435456) }
+        ensures { (result ≡ packed (point (office_of self.now) (tail (office_of self.now) s))) × (result < 268435456) }
     {
         self.corner(s).key()
     }
 
     pub(crate) fn keyed(&self, side: u16) -> Keyed
         requires { side < length self.now.corners.now }
-        ensures { (result.side ≡ side) × (result.key ≡ Heap.key (plan self.now) side) }
+        ensures { (result.side ≡ side) × (result.key ≡ Heap.key (office_of self.now) side) }
     {
         let s = usize::from(side);
         let long = self.side_squared(s);
@@ -54,7 +54,7 @@ impl<'a> Accepted<'a> {
     // The second end of side s.
     fn second_of(&self, s: usize) -> u32
         requires { s < length self.now.corners.now }
-        ensures { result ≡ packed (point (plan self.now) (peeling.second_end (plan self.now) s)) }
+        ensures { result ≡ packed (point (office_of self.now) (peeling.second_end (office_of self.now) s)) }
     {
         self.spot_at(s).max(self.spot_at(next_of(s)))
     }
@@ -62,15 +62,15 @@ impl<'a> Accepted<'a> {
     // Of sides s and r of one key, whether s goes before r: by the second end.
     pub(crate) fn second_before(&self, s: u16, r: u16) -> bool
         requires { (s < length self.now.corners.now) × (r < length self.now.corners.now) }
-        ensures { result ≡ ltb (packed (point (plan self.now) (peeling.second_end (plan self.now) s))) (packed (point (plan self.now) (peeling.second_end (plan self.now) r))) }
+        ensures { result ≡ ltb (packed (point (office_of self.now) (peeling.second_end (office_of self.now) s))) (packed (point (office_of self.now) (peeling.second_end (office_of self.now) r))) }
     {
         self.second_of(usize::from(s)) < self.second_of(usize::from(r))
     }
 
     // Whether one side goes before another. No derived order: the second ends are looked up in the office, and only where the keys are equal.
     pub(crate) fn outranks(&self, one: Keyed, other: Keyed) -> bool
-        requires { Known (plan self.now) one × Known (plan self.now) other }
-        ensures { result ≡ ltb (rank (plan self.now) other.side) (rank (plan self.now) one.side) }
+        requires { Known (office_of self.now) one × Known (office_of self.now) other }
+        ensures { result ≡ ltb (rank (office_of self.now) other.side) (rank (office_of self.now) one.side) }
     {
         if other.key != one.key {
             return other.key < one.key;

@@ -6,7 +6,7 @@ ghost use Rattle.std.specs.Prelude.{◌≡◌, ◌+◌, ◌/◌, ◌<◌, ◌≤
 ghost use Rattle.sheet.specs.Office.{next, last};
 ghost use Rattle.rim.specs.Code.{front, Held};
 ghost use Rattle.rim.specs.Heap.{Pushed, Sunk, Popped, Joined, Leading, Next};
-ghost use Rattle.rim.specs.Plan.{plan, Known, Heaped, Waits};
+ghost use Rattle.rim.specs.Values.{office_of, Known, Heaped, Waits};
 ghost use Rattle.rim.specs.Peel as peeling;
 
 use crate::answers::Side;
@@ -25,8 +25,8 @@ pub struct Queue {
 impl Queue {
     // All sides of the rim wait, and no others.
     pub fn of_rim(office: &Accepted, kept: &[u8]) -> Queue
-        requires { (length office.now.corners.now / 3 ≤ length kept.now) × (peeling.rims (plan office.now) (front office.now.corners.now kept.now) ≤ 1024) }
-        ensures { Waits (plan office.now) (front office.now.corners.now kept.now) result }
+        requires { (length office.now.corners.now / 3 ≤ length kept.now) × (peeling.rims (office_of office.now) (front office.now.corners.now kept.now) ≤ 1024) }
+        ensures { Waits (office_of office.now) (front office.now.corners.now kept.now) result }
     {
         let mut queue = Queue {
             places: [0; 1024],
@@ -61,9 +61,9 @@ impl Queue {
 
     // Puts a side to those that wait.
     fn push(&mut self, office: &Accepted, side: Keyed)
-        requires heaped { Heaped (plan office.now) self.old × (self.old.waiting < 1024) }
-        requires side_known { Known (plan office.now) side }
-        ensures pushed { Pushed (plan office.now) self.old.places self.new.places self.new.keys self.old.waiting side.side }
+        requires heaped { Heaped (office_of office.now) self.old × (self.old.waiting < 1024) }
+        requires side_known { Known (office_of office.now) side }
+        ensures pushed { Pushed (office_of office.now) self.old.places self.new.places self.new.keys self.old.waiting side.side }
         ensures one_more { self.new.waiting ≡ self.old.waiting + 1 }
     {
         let mut i = self.waiting;
@@ -82,8 +82,8 @@ impl Queue {
 
     // Of place c and the next, of those that wait, the one whose side goes first. Where the keys differ, what is added to c needs no branch.
     fn leader(&self, office: &Accepted, c: usize) -> usize
-        requires { (c < self.now.waiting) × (self.now.waiting ≤ 1024) × Heaped (plan office.now) self.now }
-        ensures { Leading (plan office.now) self.now.places self.now.waiting c result }
+        requires { (c < self.now.waiting) × (self.now.waiting ≤ 1024) × Heaped (office_of office.now) self.now }
+        ensures { Leading (office_of office.now) self.now.places self.now.waiting c result }
     {
         let d = c + 1;
         if d >= self.waiting {
@@ -103,9 +103,9 @@ impl Queue {
 
     // Puts a side in the place of the first.
     fn sink(&mut self, office: &Accepted, side: Keyed)
-        requires heaped { Heaped (plan office.now) self.old × (0 < self.old.waiting) × (self.old.waiting ≤ 1024) }
-        requires side_known { Known (plan office.now) side }
-        ensures sunk { Sunk (plan office.now) self.old.places self.new.places self.new.keys self.old.waiting side.side }
+        requires heaped { Heaped (office_of office.now) self.old × (0 < self.old.waiting) × (self.old.waiting ≤ 1024) }
+        requires side_known { Known (office_of office.now) side }
+        ensures sunk { Sunk (office_of office.now) self.old.places self.new.places self.new.keys self.old.waiting side.side }
         ensures as_many { self.new.waiting ≡ self.old.waiting }
     {
         let mut i = 0;
@@ -125,8 +125,8 @@ impl Queue {
 
     // Drops the first.
     fn drop_first(&mut self, office: &Accepted)
-        requires { Heaped (plan office.now) self.old × (0 < self.old.waiting) × (self.old.waiting ≤ 1024) }
-        ensures popped { Popped (plan office.now) self.old.places self.new.places self.new.keys self.old.waiting }
+        requires { Heaped (office_of office.now) self.old × (0 < self.old.waiting) × (self.old.waiting ≤ 1024) }
+        ensures popped { Popped (office_of office.now) self.old.places self.new.places self.new.keys self.old.waiting }
         ensures one_less { self.new.waiting + 1 ≡ self.old.waiting }
     {
         self.waiting -= 1;
@@ -139,9 +139,9 @@ impl Queue {
     // Of the mates of the two other sides of side s's triangle, puts those that are not stuck in the place of the first. Where both are stuck the
     // first stays: it is stuck too by now, and dropped when it is met.
     pub(crate) fn join(&mut self, office: &Accepted, rim: &[u8], s: usize)
-        requires heaped { Heaped (plan office.now) self.old × (0 < self.old.waiting) × (self.old.waiting < 1024) × (length office.now.xs.now ≤ length rim.now) }
+        requires heaped { Heaped (office_of office.now) self.old × (0 < self.old.waiting) × (self.old.waiting < 1024) × (length office.now.xs.now ≤ length rim.now) }
         requires s_in_bounds { (s < length office.now.corners.now) × (get_or office.now.mate.now (next s) 0 < length office.now.corners.now) × (get_or office.now.mate.now (last s) 0 < length office.now.corners.now) }
-        ensures { Joined (plan office.now) rim.now self.old.places self.new.places self.new.keys self.old.waiting self.new.waiting (get_or office.now.mate.now (next s) 0) (get_or office.now.mate.now (last s) 0) }
+        ensures { Joined (office_of office.now) rim.now self.old.places self.new.places self.new.keys self.old.waiting self.new.waiting (get_or office.now.mate.now (next s) 0) (get_or office.now.mate.now (last s) 0) }
     {
         let outward = office.mate[next_of(s)];
         let inward = office.mate[last_of(s)];
@@ -164,8 +164,8 @@ impl Queue {
     // The side to peel next, which then stands first. Sides before it whose triangle's third corner is on the rim are dropped: they are not removable
     // any more.
     pub(crate) fn next_side(&mut self, office: &Accepted, kept: &[u8], rim: &[u8]) -> Option<Side>
-        requires { Held (plan office.now) office.now.mate.now kept.now rim.now × (self.old.waiting ≤ 1024) × Waits (plan office.now) (front office.now.corners.now kept.now) self.old }
-        ensures { Next (plan office.now) (front office.now.corners.now kept.now) self.new.places self.new.keys self.new.waiting result }
+        requires { Held (office_of office.now) office.now.mate.now kept.now rim.now × (self.old.waiting ≤ 1024) × Waits (office_of office.now) (front office.now.corners.now kept.now) self.old }
+        ensures { Next (office_of office.now) (front office.now.corners.now kept.now) self.new.places self.new.keys self.new.waiting result }
     {
         while self.waiting > 0 {
             let s = usize::from(self.places[0]);

@@ -6,7 +6,7 @@ ghost use Rattle.laws.specs.First.{first, walk};
 ghost use Rattle.sheet.specs.Office.{bare};
 ghost use Rattle.sheet.specs.Code.{Numbered};
 ghost use Rattle.rim.specs.Code.{front, State, Ringlike, Linked, Leaves};
-ghost use Rattle.rim.specs.Plan.{plan};
+ghost use Rattle.rim.specs.Values.{office_of};
 ghost use Rattle.rim.specs.Peel as peeling;
 
 use crate::Tally;
@@ -39,8 +39,8 @@ impl<'a> Accepted<'a> {
 
     // The outline of marks on the way, from the lowest point on the rim.
     pub fn lay_ring(&self, kept: &[u8], rim: &[u8], tally: Tally, ring: &mut [u16])
-        requires { State (plan self.now) self.now.mate.now kept.now rim.now tally.peeled tally.area tally.ring × (length self.now.xs.now ≤ length ring.old) }
-        ensures { ring.new ≡ peeling.ring (plan self.now) (front self.now.corners.now kept.now) ++ drop tally.ring ring.old }
+        requires { State (office_of self.now) self.now.mate.now kept.now rim.now tally.peeled tally.area tally.ring × (length self.now.xs.now ≤ length ring.old) }
+        ensures { ring.new ≡ peeling.ring (office_of self.now) (front self.now.corners.now kept.now) ++ drop tally.ring ring.old }
     {
         let low = lowest_marked(rim, self.xs.len());
         let link = self.links(kept);

@@ -3,7 +3,7 @@
 ghost use Rattle.std.specs.Prelude.{◌≡◌, ◌/◌, ◌<◌, ◌≤◌, eqb, length, get_or, nat_abs};
 ghost use Rattle.sheet.specs.Office.{area, apex, bare, tail};
 ghost use Rattle.rim.specs.Code.{front};
-ghost use Rattle.rim.specs.Plan.{plan};
+ghost use Rattle.rim.specs.Values.{office_of};
 ghost use Rattle.rim.specs.Peel as peeling;
 
 use crate::office::Accepted;
@@ -15,7 +15,7 @@ impl<'a> Accepted<'a> {
     // The point of the corner at place s.
     pub(crate) fn corner(&self, s: usize) -> Spot
         requires { s < length self.now.corners.now }
-        ensures { (result.x ≡ get_or self.now.xs.now (tail (plan self.now) s) 0) × (result.y ≡ get_or self.now.ys.now (tail (plan self.now) s) 0) }
+        ensures { (result.x ≡ get_or self.now.xs.now (tail (office_of self.now) s) 0) × (result.y ≡ get_or self.now.ys.now (tail (office_of self.now) s) 0) }
     {
         Spot {
             x: at_corner(self.xs, self.corners, s),
@@ -26,7 +26,7 @@ impl<'a> Accepted<'a> {
     // The squared length of side s.
     pub(crate) fn side_squared(&self, s: usize) -> u32
         requires { s < length self.now.corners.now }
-        ensures { result ≡ peeling.long (plan self.now) s }
+        ensures { result ≡ peeling.long (office_of self.now) s }
     {
         squared(self.corner(s), self.corner(next_of(s)))
     }
@@ -34,7 +34,7 @@ impl<'a> Accepted<'a> {
     // Twice the area of triangle t.
     pub(crate) fn area_of(&self, t: usize) -> u32
         requires { t < length self.now.corners.now / 3 }
-        ensures { result ≡ nat_abs (area (plan self.now) t) }
+        ensures { result ≡ nat_abs (area (office_of self.now) t) }
     {
         let s = t * 3;
         doubled(self.corner(s), self.corner(s + 1), self.corner(s + 2))
@@ -55,7 +55,7 @@ impl<'a> Accepted<'a> {
     // Whether side s is stuck: its triangle's third corner is on the rim, where it stays, so the side is never removable.
     pub(crate) fn is_stuck(&self, rim: &[u8], s: usize) -> bool
         requires { (s < length self.now.corners.now) × (length self.now.xs.now ≤ length rim.now) }
-        ensures { result ≡ eqb (get_or rim.now (apex (plan self.now) s) 0) 1 }
+        ensures { result ≡ eqb (get_or rim.now (apex (office_of self.now) s) 0) 1 }
     {
         let apex = self.corners[last_of(s)];
         rim[usize::from(apex)] == 1

@@ -4,7 +4,7 @@ ghost use Rattle.std.specs.Prelude.{◌≡◌, ◌/◌, ◌<◌, ◌≤◌, leng
 ghost use Rattle.sheet.specs.Office.{bare};
 ghost use Rattle.sheet.specs.Code.{Numbered};
 ghost use Rattle.rim.specs.Code.{front, State, ends_marked, Marked};
-ghost use Rattle.rim.specs.Plan.{plan};
+ghost use Rattle.rim.specs.Values.{office_of};
 ghost use Rattle.rim.specs.Peel as peeling;
 
 use crate::Tally;
@@ -14,7 +14,7 @@ use sheet::sides::next_of;
 impl<'a> Accepted<'a> {
     // Twice the area of all triangles.
     fn area_all(&self) -> u32
-        ensures { result ≡ peeling.doubled (plan self.now) (peeling.whole (plan self.now)) }
+        ensures { result ≡ peeling.doubled (office_of self.now) (peeling.whole (office_of self.now)) }
     {
         let mut total: u32 = 0;
         for t in 0..self.corners.len() / 3 {
@@ -52,7 +52,7 @@ impl<'a> Taken<'a> {
     // The state before the first peel. A mark is the byte 1 or 0, as document 01 lends it.
     pub fn begin(&self, kept: &mut [u8], rim: &mut [u8]) -> Tally
         requires { (length self.now.sheet.corners.now / 3 ≤ length kept.old) × (length self.now.sheet.xs.now ≤ length rim.old) }
-        ensures state { State (plan self.now.sheet) self.now.sheet.mate.now kept.new rim.new result.peeled result.area result.ring × (result.peeled ≡ 0) }
+        ensures state { State (office_of self.now.sheet) self.now.sheet.mate.now kept.new rim.new result.peeled result.area result.ring × (result.peeled ≡ 0) }
         ensures rest_unchanged { (drop (length self.now.sheet.corners.now / 3) kept.new ≡ drop (length self.now.sheet.corners.now / 3) kept.old) × (drop (length self.now.sheet.xs.now) rim.new ≡ drop (length self.now.sheet.xs.now) rim.old) }
     {
         kept[..self.sheet.corners.len() / 3].fill(1);

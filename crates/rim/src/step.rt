@@ -1,7 +1,7 @@
 // One step.
 // For the layer above: no public call, so a `requires` may stand.
 ghost use Rattle.rim.specs.Code.{front, State, Stepped};
-ghost use Rattle.rim.specs.Plan.{plan, Waits};
+ghost use Rattle.rim.specs.Values.{office_of, Waits};
 
 use crate::Tally;
 use crate::answers::Step;
@@ -20,9 +20,9 @@ pub fn step(
     limit: u32,
     tally: Tally,
 ) -> (Step, Tally)
-    requires { State (plan office.now) office.now.mate.now kept.old rim.old tally.peeled tally.area tally.ring × Waits (plan office.now) (front office.now.corners.now kept.old) queue.old }
-    ensures stepped { Stepped (plan office.now) limit office.now.mate.now kept.old rim.old kept.new rim.new tally.peeled result.0 result.1.peeled result.1.area result.1.ring }
-    ensures queued { Waits (plan office.now) (front office.now.corners.now kept.new) queue.new }
+    requires { State (office_of office.now) office.now.mate.now kept.old rim.old tally.peeled tally.area tally.ring × Waits (office_of office.now) (front office.now.corners.now kept.old) queue.old }
+    ensures stepped { Stepped (office_of office.now) limit office.now.mate.now kept.old rim.old kept.new rim.new tally.peeled result.0 result.1.peeled result.1.area result.1.ring }
+    ensures queued { Waits (office_of office.now) (front office.now.corners.now kept.new) queue.new }
 {
     match queue.next_side(office, kept, rim) {
         Some(side) if side.squared > limit => {

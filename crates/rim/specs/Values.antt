@@ -1,4 +1,4 @@
--- The office that the code holds, and the sides in a queue. Assumes nothing.
+-- What the code's structs stand for. Assumes nothing.
 use Rattle.std.specs.Prelude.{◌≡◌, ◌<◌, ℕ, List}
 use Rattle.sheet.specs.Office.{Office, office, sides}
 use Rattle.rim.specs.Heap.{Heap, Queued, key}
@@ -6,8 +6,8 @@ use Rattle.rim.specs.declared.office.Accepted.{Accepted}
 use Rattle.rim.specs.declared.keys.Keyed.{Keyed}
 use Rattle.rim.specs.declared.queue.Queue.{Queue}
 
-abbrev pub plan : Accepted → Office
-plan a = office a.xs.now a.ys.now a.corners.now
+abbrev pub office_of : Accepted → Office
+office_of a = office a.xs.now a.ys.now a.corners.now
 
 -- a side of the office, with its own key
 abbrev pub Known : Office → Keyed → Type 0
