@@ -1,14 +1,15 @@
 -- What the library's searches over a range or a list find, in the words of `first`, `any` and `lowest`. Assumes nothing.
-use Rattle.std.proofs.Common.{◌≡◌, ℕ, ◌≤◌, ◌<◌, Bool, true, false, cond, List, length, get_or, Option, Some, None, refl, sym, ap, ◌∙◌, subst, arith}
+use Rattle.std.proofs.Common.{◌≡◌, ℕ, ◌≤◌, ◌<◌, Bool, true, false, cond, ◌&&◌, List, [], ◌∷◌, length, get_or, Option, Some, None, refl, sym, ap, ◌∙◌, subst, arith}
 use Rattle.std.specs.declared.ops.Range.{Range}
 use Rattle.std.specs.Bool.{⊤, MatchBool}
 use Rattle.std.specs.Option.{MatchOption, unwrap_or, option_or}
 use Rattle.std.specs.Fn.{Called, CalledAt}
 use Rattle.std.specs.Iterator.{YieldsThen}
-use Rattle.std.specs.List.{range_with_len, FoldsTo, AllWithin, HoldsAt}
+use Rattle.std.specs.List.{range_with_len, fold, list_all, FoldsTo, AllWithin, HoldsAt}
 use Rattle.std.specs.Slice.Iter.{iter_rest}
 use Rattle.std.proofs.iter.Yields.{nat_range_steps, fronts}
 use Rattle.std.proofs.lemmas.Iterator.{YieldsList-from_range, YieldsList-from_slice, cases_from_any, IsFirst-from_position, first_from_Range}
+use Rattle.std.proofs.lemmas.List.Folds.{fold_stays}
 use Rattle.std.proofs.lemmas.List.FromFn.{length-range_with_len, get_or-range_with_len}
 use Rattle.std.specs.declared.slice.Iter.{Iter}
 use mathlib.Core.Bool.{true≢false}
@@ -137,3 +138,12 @@ module _ {A : Type 0} (xs : List A) (d : A) (here : A → Bool) (test : ℕ → 
       → (ys : List (Bor A)) × (o : Option (Bor A)) × (j : F) × YieldsThen fronts s ys o u × FoldsTo (λ p x q. Called g p (x, tt) false q) f ys j × MatchOption o (r ≡ None) (λ x. (r ≡ Some (length ys)) × ((h : F) × Called g j (x, tt) true h))
       → ((x : Bor A) (q : F) → Called g f (x, tt) true q → here x.now ≡ true) → ((x : Bor A) (q : F) → Called g f (x, tt) false q → (q ≡ f) × (here x.now ≡ false)) → r ≡ lowest test (length xs)
   lowest_from_position u {f = f} {r = r} e ran hit miss = by_place r (IsFirst-from_position u f r (λ x. here x ≡ true) (λ x. here x ≡ false) ran (YieldsList-from_slice xs e) hit miss)
+
+-- whether all pass, asked of each of them
+pub all_from_fold : {A : Type 0} (p : A → Bool) (xs : List A) → fold (λ a x. a && p x) true xs ≡ list_all p xs
+all_from_fold p [] = refl
+all_from_fold p (x ∷ xs) = go (p x) (all_from_fold p xs)
+  where
+    go : (b : Bool) → fold (λ a y. a && p y) true xs ≡ list_all p xs → fold (λ a y. a && p y) b xs ≡ (b && list_all p xs)
+    go true e = e
+    go false e = fold_stays (λ a y. a && p y) false (λ y. refl) xs

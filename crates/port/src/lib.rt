@@ -80,15 +80,15 @@ pub fn port_read(block: &[u8], xs: &mut [u16], ys: &mut [u16], answer: &mut [u64
 
 // Besides a refusal: 0 with a grid number, 2 with the value off the grid, 3 for what is not finite.
 fn judged(found: Result<Coordinate, Refusal>, answer: &mut [u64; 4], value: &mut f64) {
-    *answer = match found {
-        Ok(Coordinate::Grid(number)) => [0, u64::from(number), 0, 0],
+    match found {
+        Ok(Coordinate::Grid(number)) => *answer = [0, u64::from(number), 0, 0],
         Ok(Coordinate::OffGrid(read)) => {
+            *answer = [2, 0, 0, 0];
             *value = read;
-            [2, 0, 0, 0]
         }
-        Ok(Coordinate::NotFinite) => [3, 0, 0, 0],
-        Err(refusal) => refused(refusal),
-    };
+        Ok(Coordinate::NotFinite) => *answer = [3, 0, 0, 0],
+        Err(refusal) => *answer = refused(refusal),
+    }
 }
 
 pub fn port_judge(block: &[u8], order: u8, place: usize, answer: &mut [u64; 4], value: &mut f64) {

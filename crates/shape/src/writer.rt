@@ -25,7 +25,7 @@ pub fn is_ring(xs: &[u16], ys: &[u16]) -> bool
 fn is_low(x: &[u16]) -> bool
     ensures { result ≡ low x.now }
 {
-    x.iter().all(|g| *g <= 16383)
+    x.iter().fold(true, |low, g| low & (*g <= 16383))
 }
 
 pub fn are_low(xs: &[u16], ys: &[u16]) -> bool
