@@ -30,10 +30,6 @@ point_there s at e =
     let l = coordinates_there 2 (order_at s at) s (at + 5) (typed s at 1 33 q.0).1 q.1 in
     omega arith
 
--- ... and its byte order is one of the two
-pub point_ordered : (s : List ℕ) (at : ℕ) → gives tt ≡ fault (point_asks s at) → order_at s at ≤ 1
-point_ordered s at e = (typed s at 1 33 (passed_both (type_asks s at 1 33) (coordinates 2 (order_at s at) s (at + 5)) (tt {0}) (tt {0}) e).0).0.1
-
 -- ---- the head
 
 module _ (s : List ℕ) (room : ℕ) where

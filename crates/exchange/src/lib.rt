@@ -70,7 +70,7 @@ pub fn read_points(block: &[u8], xs: &mut [u16], ys: &mut [u16]) -> Result<usize
 {
     let n = points::points_at(block, xs.len().min(ys.len()))?;
     reader::ended(block, 9 + 21 * n)?;
-    points::fill_points(block, n, xs, ys);
+    points::fill_points(block, 9, n, xs, ys);
     Ok(n)
 }
 

@@ -2,11 +2,11 @@
 // For this crate: no public call, so a `requires` may stand.
 ghost use Rattle.std.specs.Prelude.{◌≡◌, ◌+◌, ◌*◌, ◌≤◌, length};
 ghost use Rattle.std.proofs.lemmas.List.Edits.{sets};
-ghost use Rattle.shape.specs.Answers.{gives, asked, reply};
-ghost use Rattle.shape.specs.Reading.{run, row};
+ghost use Rattle.shape.specs.Answers.{asked, reply};
+ghost use Rattle.shape.specs.Reading.{row};
 ghost use Rattle.exchange.specs.Points.{point_asks, point_x, point_y, point_count, points_asks, within};
 
-use shape::block::{Block, ByteOrder};
+use shape::block::Block;
 use shape::{Shape, reader};
 use sheet::{Refusal, Rule};
 
@@ -15,12 +15,9 @@ fn point_fault(s: &[u8], at: usize) -> Result<(), Refusal>
     requires { at ≤ length s.now }
     ensures { reply result ≡ asked (point_asks s.now at) tt }
 {
-    let own = reader::typed(s, at, Shape::Point, Rule::PointType)?;
-    let block = Block {
-        bytes: s,
-        order: own,
-    };
-    block.position_fault(at + 5)
+    reader::typed(s, at, Shape::Point, Rule::PointType)?;
+    let own = at;
+    reader::position_fault(s, s[own], at + 5)
 }
 
 // A MultiPoint, scanned and not kept, for lists that both have so much room: the count.
@@ -36,22 +33,17 @@ pub fn points_at(s: &[u8], room: usize) -> Result<usize, Refusal>
     Ok(n)
 }
 
-// Fills the lists with the grid numbers of a file's n Points, against which nothing stands. It is a loop of its own beside that of a polygon's
-// positions: a closure for what stands at a place would take more words than the loop.
-pub fn fill_points(s: &[u8], n: usize, xs: &mut [u16], ys: &mut [u16])
-    requires points_are_good { gives (tt {0}) ≡ asked (run 21 (point_asks s.now) n 9) (tt {0}) }
-    requires n_in_bounds { 9 + 21 * n ≤ length s.now }
+// Fills the lists with the grid numbers of n Points from a place on, each read in its own byte order. It is a loop of its own beside that of a
+// polygon's positions: a closure for what stands at a place would take more words than the loop.
+pub fn fill_points(s: &[u8], at: usize, n: usize, xs: &mut [u16], ys: &mut [u16])
+    requires n_in_bounds { at + 21 * n ≤ length s.now }
     requires lists_in_bounds { (n ≤ length xs.old) × (n ≤ length ys.old) }
-    ensures xs_after { xs.new ≡ sets xs.old 0 (row 21 (point_x s.now) n 9) }
-    ensures ys_after { ys.new ≡ sets ys.old 0 (row 21 (point_y s.now) n 9) }
+    ensures xs_after { xs.new ≡ sets xs.old 0 (row 21 (point_x s.now) n at) }
+    ensures ys_after { ys.new ≡ sets ys.old 0 (row 21 (point_y s.now) n at) }
 {
     for i in 0..n {
-        let at = 9 + 21 * i;
-        let order = ByteOrder::try_from(s[at]).unwrap();
-        let block = Block { bytes: s, order };
-        let (x, y) = block.grid_position(at + 5);
-        xs[i] = x;
-        ys[i] = y;
+        let place = at + 21 * i;
+        reader::keep(s, s[place], place + 5, xs, ys, i);
     }
 }
 

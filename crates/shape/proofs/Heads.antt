@@ -1,5 +1,5 @@
 -- What an answer says of the questions: each that was passed holds; a head that was read, and positions that were scanned. Assumes nothing.
-use Rattle.std.proofs.Common.{◌≡◌, ℕ, zero, suc, ◌+◌, ◌-◌, ◌*◌, ◌<◌, ◌≤◌, Bool, true, false, cond, ◌&&◌, eqb, leb, List, [], ◌∷◌, ◌++◌, length, sym, refl, ap, ◌∙◌, arith, eq-eqb, eqb-true, le-leb, leb-true}
+use Rattle.std.proofs.Common.{◌≡◌, ℕ, zero, suc, ◌+◌, ◌-◌, ◌*◌, ◌≤◌, Bool, true, false, cond, ◌&&◌, eqb, leb, List, [], ◌∷◌, ◌++◌, length, sym, refl, ap, ◌∙◌, arith, eq-eqb, eqb-true, le-leb, leb-true}
 use Rattle.laws.proofs.Test.{and_iff}
 use Rattle.shape.specs.Answers.{Question, must, gives, refused, asked}
 use Rattle.shape.specs.Bytes.{number_at}
@@ -114,17 +114,6 @@ ran_there step asks s each (suc k) at h e =
     let q = passed_both (asks at) (run step asks k (at + step)) tt tt e in
     let r : at + step + step * k ≤ length s = ran_there step asks s each k (at + step) (each at q.0) q.1 in
     omega arith
-
--- ... and each of them was
-pub ran_each : (step : ℕ) (asks : ℕ → List Question) (n at : ℕ) → gives tt ≡ ran step asks n at → (i : ℕ) → i < n → gives tt ≡ fault (asks (at + step * i))
-unfolding run
-ran_each step asks zero at e i h = absurd (omega arith)
-ran_each step asks (suc n) at e zero h =
-    let f : at ≡ at + step * 0 = omega arith in
-    (passed_both (asks at) (run step asks n (at + step)) (tt {0}) (tt {0}) e).0 ∙ ap (λ (p : ℕ). fault (asks p)) f
-ran_each step asks (suc n) at e (suc i) h =
-    let f : at + step + step * i ≡ at + step * suc i = omega arith in
-    ran_each step asks n (at + step) (passed_both (asks at) (run step asks n (at + step)) (tt {0}) (tt {0}) e).1 i (omega arith) ∙ ap (λ (p : ℕ). fault (asks p)) f
 
 pub coordinates_there : (k order : ℕ) (s : List ℕ) (at : ℕ) → at ≤ length s → gives tt ≡ scanned k order s at → at + 8 * k ≤ length s
 coordinates_there k order s at h e =

@@ -86,11 +86,8 @@ module _ (s : List ℕ) (at room : ℕ) {order : ByteOrder} (found : gives order
     pub count_good : Headed s at room (m - 1)
     count_good = head_good s at room (m - 1) (count_found counted)
 
-    pub scanned_there : gives tt ≡ scanned (2 * (m - 1 + 1)) (code order) s (at + 13) → at + 13 + 8 * (2 * (m - 1 + 1)) ≤ length s
-    scanned_there e = coordinates_there (2 * (m - 1 + 1)) (code order) s (at + 13) count_good.there e
-
-  pub scan_is_read : (k p : ℕ) → scanned k (code order) s p ≡ scanned k (order_at s at) s p
-  scan_is_read k p = counts_are (λ (o : ℕ). scanned k o s p)
+    pub scanned_there : gives tt ≡ scanned (2 * (m - 1 + 1)) (order_at s at) s (at + 13) → at + 13 + 8 * (2 * (m - 1 + 1)) ≤ length s
+    scanned_there e = coordinates_there (2 * (m - 1 + 1)) (order_at s at) s (at + 13) count_good.there e
 
   -- the first position and the last, as they were read
   pub closing_is_read : {x y u v : ℕ} (n : ℕ) → x ≡ grid_at (code order) s (at + 13) → y ≡ grid_at (code order) s (at + 13 + 8)

@@ -4,7 +4,6 @@ use borrow.Author.Tests.{lt-leb, eqb-false}
 use Rattle.laws.proofs.Test.{and_iff}
 use Rattle.shape.specs.Answers.{Question, must, Answer, gives, refused, asked}
 use Rattle.std.specs.Prelude.{Result, Ok, Err}
-use Rattle.std.specs.Result.{IsOk, is_ok}
 use Rattle.sheet.specs.declared.refusal.Rule.{Rule}
 use Rattle.sheet.specs.Refusal.{number}
 use Rattle.shape.specs.declared.block.ByteOrder.{ByteOrder}
@@ -85,6 +84,13 @@ pub same_number : (k byte : ℕ) (s : List ℕ) (at : ℕ) → number_at k (code
 same_number k zero s at = refl
 same_number k (suc n) s at = sym (ap (λ (b : Bool). low_first (turned b (take k (drop at s)))) (ne_eqb (suc n) 0 (λ e. omega arith)))
 
+-- ... and so is a count
+pub same_size : {order : ByteOrder} (repeated byte : ℕ) (s : List ℕ) (at room : ℕ) → order ≡ order_of byte
+    → asked (size_asks repeated (code order) s at room) (number_at 4 (code order) s at) ≡ asked (size_asks repeated byte s at room) (number_at 4 byte s at)
+same_size {order} repeated byte s at room is =
+    ap (λ (n : ℕ). asked (whole 4 s at ∷ must (leb (3 + repeated) n && leb n (1024 + repeated)) 24 at ∷ must (leb (n - repeated) room) 29 at ∷ []) n)
+    (ap (λ (o : ByteOrder). number_at 4 (code o) s at) is ∙ same_number 4 byte s at)
+
 pub code_is : (byte : ℕ) → byte ≤ 1 → code (order_of byte) ≡ byte
 code_is zero h = refl
 code_is (suc zero) h = refl
@@ -102,11 +108,6 @@ order_found byte place e =
     ap code (given_is (order_asks byte place) (order_of byte) e) ∙ code_is byte (leb-true byte 1 (passed_one (leb byte 1) 21 place [] (order_of byte) e).0)
 
 -- a byte order that is known to be there
-pub ordered_ok : {r : Result ByteOrder Rule} (byte : ℕ) → byte ≤ 1 → r ≡ byte_order byte → IsOk r
-ordered_ok zero h e = ap is_ok e
-ordered_ok (suc zero) h e = ap is_ok e
-ordered_ok (suc (suc n)) h e = absurd (omega arith)
-
 pub code_of : {r : Result ByteOrder Rule} {order : ByteOrder} (byte : ℕ) → r ≡ byte_order byte → r ≡ Ok order → code order ≡ byte
 code_of {r} {order} zero e f = let g : order ≡ Big = cc in ap code g
 code_of {r} {order} (suc zero) e f = let g : order ≡ Little = cc in ap code g

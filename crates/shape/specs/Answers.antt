@@ -37,3 +37,8 @@ refusal r = refused (number r.rule) r.place
 abbrev pub reply : {A : Type 0} → Result A Refusal → Answer A
 reply (Ok a) = gives a
 reply (Err r) = refusal r
+
+-- ... where a number, which may be no rule's, and a place tell the refusal
+abbrev pub stated : {A : Type 0} → Result A (ℕ × ℕ) → Answer A
+stated (Ok a) = gives a
+stated (Err e) = refused e.0 e.1

@@ -89,3 +89,21 @@ impl Block<'_> {
         }
     }
 }
+
+// The number of the four bytes at a place under any byte for a byte order: 0 has the high byte first, any other the low byte first.
+pub fn number4(s: &[u8], order: u8, at: usize) -> u32
+    requires { at + 4 ≤ length s.now }
+    ensures { result ≡ number_at 4 order s.now at }
+{
+    let order = ByteOrder::of(order);
+    Block { bytes: s, order }.number4(at)
+}
+
+// The number of the eight.
+pub fn number8(s: &[u8], order: u8, at: usize) -> u64
+    requires { at + 8 ≤ length s.now }
+    ensures { result ≡ number_at 8 order s.now at }
+{
+    let order = ByteOrder::of(order);
+    Block { bytes: s, order }.number8(at)
+}

@@ -35,6 +35,13 @@ pub fn coordinate_of(x: f64) -> Coordinate
     }
 }
 
+// The grid number of a float, or 0.
+pub fn grid(x: f64) -> u16
+    ensures { result ≡ grid_of (coordinate x) }
+{
+    coordinate_of(x).grid_or_0()
+}
+
 impl Block<'_> {
     pub fn float_at(&self, at: usize) -> f64
         requires { at + 8 ≤ length self.now.bytes.now }
@@ -69,11 +76,26 @@ impl Block<'_> {
         ensures y_value { result.1 ≡ grid_at (code self.now.order) self.now.bytes.now (at + 8) }
     {
         let p = self.position_at(at);
-        (
-            coordinate_of(p.x).grid_or_0(),
-            coordinate_of(p.y).grid_or_0(),
-        )
+        (grid(p.x), grid(p.y))
     }
+}
+
+// The float of eight bytes, under any byte for a byte order.
+pub fn float_at(s: &[u8], order: u8, at: usize) -> f64
+    requires { at + 8 ≤ length s.now }
+    ensures { result ≡ float_at order s.now at }
+{
+    let order = ByteOrder::of(order);
+    Block { bytes: s, order }.float_at(at)
+}
+
+// Its coordinate.
+pub fn coordinate_at(s: &[u8], order: u8, at: usize) -> Coordinate
+    requires { at + 8 ≤ length s.now }
+    ensures { result ≡ coordinate_at order s.now at }
+{
+    let order = ByteOrder::of(order);
+    Block { bytes: s, order }.coordinate_at(at)
 }
 
 // The two floats of sixteen bytes, under any byte for a byte order: docs/PROMISES.md names it so.

@@ -1,17 +1,17 @@
 // A polygon that begins at a place of a block: the scan that finds its first fault, and the filling of the lists after it.
 // For the layer above: no public call, so a `requires` may stand.
-ghost use Rattle.std.specs.Prelude.{◌≡◌, ◌+◌, ◌*◌, ◌<◌, ◌≤◌, min, [], ◌∷◌, length, OnOk};
+ghost use Rattle.std.specs.Prelude.{◌≡◌, ◌+◌, ◌*◌, ◌<◌, ◌≤◌, min, [], ◌∷◌, length, slice_set, OnOk};
 ghost use Rattle.std.proofs.lemmas.List.Edits.{sets};
 ghost use Rattle.sheet.specs.Refusal.{number};
-ghost use Rattle.shape.specs.Answers.{asked, gives, reply};
+ghost use Rattle.shape.specs.Answers.{asked, gives, reply, stated};
 ghost use Rattle.shape.specs.Bytes.{code, order_of, number_at};
 ghost use Rattle.shape.specs.Types.{type_of};
-ghost use Rattle.shape.specs.Coordinates.{ended, whole};
+ghost use Rattle.shape.specs.Coordinates.{grid_at, ended, whole};
 ghost use Rattle.shape.specs.Reading.{coordinates, grids, order_at, type_asks, size_asks, count, count_asks, polygon_asks, length_at, xs_at, ys_at};
 
 use crate::Shape;
-use crate::block::{Block, ByteOrder};
-use crate::coordinates::coordinate_of;
+use crate::block::{Block, ByteOrder, number4};
+use crate::coordinates::{coordinate_of, grid, position_at};
 use sheet::{Refusal, Rule};
 
 // What stands against the k bytes at a place: not all may be there. A place of any size is taken.
@@ -51,6 +51,28 @@ pub fn typed(s: &[u8], at: usize, shape: Shape, rule: Rule) -> Result<ByteOrder,
     Ok(order)
 }
 
+// What stands against the byte order and the type at a place, by its number and its place: the number given for another type may be no rule's, as the
+// type may be no `Shape`'s.
+pub fn type_fault(s: &[u8], at: usize, shape: u64, number: u8) -> Result<(), (u8, usize)>
+    requires { at ≤ length s.now }
+    ensures { stated result ≡ asked (type_asks s.now at shape number) tt }
+{
+    if s.len() < at + 1 {
+        return Err((Rule::CutShort.number(), at));
+    }
+    let order = s[at];
+    if 1 < order {
+        return Err((Rule::ByteOrder.number(), at));
+    }
+    if s.len() < at + 1 + 4 {
+        return Err((Rule::CutShort.number(), at + 1));
+    }
+    if u64::from(number4(s, order, at + 1)) != shape {
+        return Err((number, at + 1));
+    }
+    Ok(())
+}
+
 impl Block<'_> {
     // What stands against the position at a place: x is judged before y is looked at.
     pub fn position_fault(&self, at: usize) -> Result<(), Refusal>
@@ -69,17 +91,6 @@ impl Block<'_> {
         Ok(())
     }
 
-    // What stands against n positions from a place on.
-    fn scan(&self, at: usize, n: usize) -> Result<(), Refusal>
-        requires { at ≤ length self.now.bytes.now }
-        ensures { reply result ≡ asked (coordinates (2 * n) (code self.now.order) self.now.bytes.now at) tt }
-    {
-        for i in 0..n {
-            self.position_fault(at + 16 * i)?;
-        }
-        Ok(())
-    }
-
     // Fills the lists with the grid numbers of n positions from a place on.
     pub fn fill(&self, at: usize, n: usize, xs: &mut [u16], ys: &mut [u16])
         requires n_in_bounds { at + 16 * n ≤ length self.now.bytes.now }
@@ -87,10 +98,9 @@ impl Block<'_> {
         ensures xs_after { xs.new ≡ sets xs.old 0 (grids n (code self.now.order) self.now.bytes.now at) }
         ensures ys_after { ys.new ≡ sets ys.old 0 (grids n (code self.now.order) self.now.bytes.now (at + 8)) }
     {
+        let order = u8::from(self.order);
         for i in 0..n {
-            let (x, y) = self.grid_position(at + 16 * i);
-            xs[i] = x;
-            ys[i] = y;
+            keep(self.bytes, order, at + 16 * i, xs, ys, i);
         }
     }
 
@@ -133,6 +143,56 @@ pub fn position_fault(s: &[u8], order: u8, at: usize) -> Result<(), Refusal>
     Block { bytes: s, order }.position_fault(at)
 }
 
+// What stands against n positions from a place on.
+fn scan(s: &[u8], order: u8, at: usize, n: usize) -> Result<(), Refusal>
+    requires { at ≤ length s.now }
+    ensures { reply result ≡ asked (coordinates (2 * n) order s.now at) tt }
+{
+    for i in 0..n {
+        position_fault(s, order, at + 16 * i)?;
+    }
+    Ok(())
+}
+
+// Puts the grid numbers of the position at a place into the i-th places of the lists, under any byte for a byte order.
+pub fn keep(s: &[u8], order: u8, at: usize, xs: &mut [u16], ys: &mut [u16], i: usize)
+    requires at_in_bounds { at + 16 ≤ length s.now }
+    requires i_in_bounds { (i < length xs.old) × (i < length ys.old) }
+    ensures xs_after { xs.new ≡ slice_set xs.old i (grid_at order s.now at) }
+    ensures ys_after { ys.new ≡ slice_set ys.old i (grid_at order s.now (at + 8)) }
+{
+    let p = position_at(s, order, at);
+    xs[i] = grid(p.x);
+    ys[i] = grid(p.y);
+}
+
+// Fills the lists with the grid numbers of n positions from a place on, under any byte for a byte order.
+pub fn fill(s: &[u8], order: u8, at: usize, n: usize, xs: &mut [u16], ys: &mut [u16])
+    requires n_in_bounds { at + 16 * n ≤ length s.now }
+    requires lists_in_bounds { (n ≤ length xs.old) × (n ≤ length ys.old) }
+    ensures xs_after { xs.new ≡ sets xs.old 0 (grids n order s.now at) }
+    ensures ys_after { ys.new ≡ sets ys.old 0 (grids n order s.now (at + 8)) }
+{
+    let order = ByteOrder::of(order);
+    Block { bytes: s, order }.fill(at, n, xs, ys);
+}
+
+// What stands against the count at a place, for lists that both have so much room, under any byte for a byte order.
+pub fn size_fault(
+    s: &[u8],
+    order: u8,
+    at: usize,
+    repeated: usize,
+    room: usize,
+) -> Result<(), Refusal>
+    requires { (at ≤ length s.now) × (repeated ≤ 1) }
+    ensures { reply result ≡ asked (size_asks repeated order s.now at room) tt }
+{
+    let order = ByteOrder::of(order);
+    Block { bytes: s, order }.sized(at, repeated, room)?;
+    Ok(())
+}
+
 // A polygon at a place, scanned and not kept, for lists that both have so much room: the ring's length.
 pub fn polygon_at(s: &[u8], at: usize, room: usize) -> Result<usize, Refusal>
     requires { at ≤ length s.now }
@@ -142,7 +202,7 @@ pub fn polygon_at(s: &[u8], at: usize, room: usize) -> Result<usize, Refusal>
     let block = Block { bytes: s, order };
     let n = block.counted(at, room)? - 1;
     let first = at + 13;
-    block.scan(first, n + 1)?;
+    scan(s, s[at], first, n + 1)?;
     let last = first + 16 * n;
     if block.grid_position(first) != block.grid_position(last) {
         return Err(Rule::OpenRing.at(last));
@@ -157,9 +217,8 @@ pub fn fill_polygon(s: &[u8], at: usize, xs: &mut [u16], ys: &mut [u16]) -> usiz
     ensures xs_after { xs.new ≡ sets xs.old 0 (xs_at s.now at) }
     ensures ys_after { ys.new ≡ sets ys.old 0 (ys_at s.now at) }
 {
-    let order = ByteOrder::try_from(s[at]).unwrap();
-    let block = Block { bytes: s, order };
-    let n = block.number4(at + 9) as usize - 1;
-    block.fill(at + 13, n, xs, ys);
+    let order = s[at];
+    let n = number4(s, order, at + 9) as usize - 1;
+    fill(s, order, at + 13, n, xs, ys);
     n
 }

@@ -27,7 +27,7 @@ returns-in_err-ended-clause-result_value c =
 pub fill_points-requires : goal.fill_points-requires
 fill_points-requires c =
     let r = points_good c.args.block.now _ c.in_ok-n.n (for_room c.args.block.now c.min.ensures c.in_ok-n.ensures) in
-    record { points_are_good = r.fine; n_in_bounds = r.whole; lists_in_bounds = (omega (arith, r.fits), omega (arith, r.fits)) }
+    record { n_in_bounds = r.whole; lists_in_bounds = (omega (arith, r.fits), omega (arith, r.fits)) }
 
 pub returns : goal.returns
 returns c =

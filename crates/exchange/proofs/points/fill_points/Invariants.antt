@@ -5,6 +5,6 @@ use Rattle.exchange.proofs.points.fill_points.Given as goal
 
 abbrev pub invariant-loop-i : goal.invariant-loop-i
 invariant-loop-i l = record {
-  x_filling : Filling 21 (point_x l.s) l.n 9 l.initial.xs l.i l.xs;
-  y_filling : Filling 21 (point_y l.s) l.n 9 l.initial.ys l.i l.ys;
+  x_filling : Filling 21 (point_x l.s) l.n l.at l.initial.xs l.i l.xs;
+  y_filling : Filling 21 (point_y l.s) l.n l.at l.initial.ys l.i l.ys;
 }

@@ -1,8 +1,8 @@
 -- `shape::reader::polygon_at` meets its contract: the head, the positions, and the last of them.
-use Rattle.std.proofs.Common.{◌+◌, ◌-◌, ◌*◌, sym, ◌∙◌, arith}
+use Rattle.std.proofs.Common.{◌-◌, sym, ◌∙◌, arith}
 use borrow.Author.Tests.{not-true, not-false}
 use Rattle.shape.proofs.Asking.{hands_on, refuses}
-use Rattle.shape.proofs.Polygons.{type_refused, count_refused, count_found, count_good, scanned_there, scan_refused, scan_is_read, closing_is_read, left_open, closed}
+use Rattle.shape.proofs.Polygons.{type_refused, count_refused, count_found, count_good, scanned_there, scan_refused, closing_is_read, left_open, closed}
 use Rattle.shape.proofs.reader.polygon_at.Goals as goal
 
 pub returns-in_err-order : goal.returns-in_err-order
@@ -25,9 +25,7 @@ returns-in_err-scan c =
     let s = c.args.s.now in
     let n = c.in_ok-n.field-0 - 1 in
     let answer = count_found s c.args.at c.args.room c.in_ok-order.ensures.result_value c.in_ok-n.ensures in
-    hands_on _ c.in_err-scan.field-0.0 c.from_residual-in_err-scan.ensures.1
-    ∙ scan_refused s c.args.at c.args.room n answer _ _
-    (c.in_err-scan.ensures ∙ scan_is_read s c.args.at c.args.room c.in_ok-order.ensures.result_value (2 * (n + 1)) (c.args.at + 13))
+    hands_on _ c.in_err-scan.field-0.0 c.from_residual-in_err-scan.ensures.1 ∙ scan_refused s c.args.at c.args.room n answer _ _ c.in_err-scan.ensures
 
 pub overflow_mul-last : goal.overflow_mul-last
 overflow_mul-last c =
@@ -55,10 +53,9 @@ returns-then-ne c =
     let n = c.in_ok-n.field-0 - 1 in
     let found = c.in_ok-order.ensures.result_value in
     let answer = count_found s c.args.at c.args.room found c.in_ok-n.ensures in
-    let fine = c.in_ok-scan.ensures ∙ scan_is_read s c.args.at c.args.room found (2 * (n + 1)) (c.args.at + 13) in
     let first = c.grid_position.ensures in
     let last = c.grid_position-2.ensures in
-    left_open s c.args.at c.args.room n answer fine
+    left_open s c.args.at c.args.room n answer c.in_ok-scan.ensures
     (closing_is_read s c.args.at c.args.room found n first.x_value first.y_value last.x_value last.y_value)
     (not-true _ (sym c.ne.ensures ∙ c.if-ne.true)) (refuses c.at.ensures)
 
@@ -68,9 +65,8 @@ returns c =
     let n = c.in_ok-n.field-0 - 1 in
     let found = c.in_ok-order.ensures.result_value in
     let answer = count_found s c.args.at c.args.room found c.in_ok-n.ensures in
-    let fine = c.in_ok-scan.ensures ∙ scan_is_read s c.args.at c.args.room found (2 * (n + 1)) (c.args.at + 13) in
     let first = c.grid_position.ensures in
     let last = c.grid_position-2.ensures in
-    closed s c.args.at c.args.room n answer fine
+    closed s c.args.at c.args.room n answer c.in_ok-scan.ensures
     (closing_is_read s c.args.at c.args.room found n first.x_value first.y_value last.x_value last.y_value)
     (not-false _ (sym c.ne.ensures ∙ c.if-ne.false))
