@@ -7,9 +7,9 @@ use Prim.Native.Nat.{ℕ, suc, ◌+◌, ◌-◌, ◌<◌, ◌≤◌}
 use native.Mathlib.Decide.{ℕ_discrete}
 use native.Mathlib.Omega.{arith}
 use lib.Dec.{eqb}
-use lib.ListN.{length, get_or, set, drop, length-set}
+use lib.ListN.{length, get_or, set, take, drop, length-set}
 use Rattle.std.proofs.lemmas.List.{append-nil}
-use lib.Seq.{sets, sets-eq, drop-length, get_or-set_same, get_or-set_other}
+use lib.Seq.{sets, sets-eq, drop-length, length-take-le, get_or-set_same, get_or-set_other}
 use Rattle.laws.specs.First.{first, walk}
 use Rattle.laws.proofs.Search.{first_is}
 use Rattle.laws.proofs.Order.{level}
@@ -96,6 +96,26 @@ walked f from count round₀ round p i h l = sym (ap (λ n. sets round i (walk f
     none_left : count - i ≡ 0
     none_left = omega arith
 
+-- so many points are written in front of a longer buffer
+pub part_walked : (f : ℕ → ℕ) (from count : ℕ) (round part : List ℕ) → count ≤ length round
+    → part ≡ sets (take count round) 0 (walk f from (length (take count round))) → part ++ drop count round ≡ sets round 0 (walk f from count)
+part_walked f from count round part l e =
+    ap (λ p. p ++ drop count round)
+    (e
+    ∙ ap (λ n. sets (take count round) 0 (walk f from n)) as_long
+    ∙ sets-eq (walk f from count) (take count round) 0 (let u = length_is in let w = as_long in omega arith)
+    ∙ ap (λ n. walk f from count ++ drop n (take count round)) (length_is ∙ sym as_long)
+    ∙ ap (λ d. walk f from count ++ d) (drop-length (take count round))
+    ∙ append-nil (walk f from count))
+    ∙ ap (λ n. walk f from count ++ drop n round) (sym length_is)
+    ∙ sym (sets-eq (walk f from count) round 0 (let u = length_is in omega arith))
+  where
+    as_long : length (take count round) ≡ count
+    as_long = length-take-le count round l
+
+    length_is : 0 + length (walk f from count) ≡ count
+    length_is = let u = length-walk f from count in omega arith
+
 never_sooner : (f g : ℕ → Bool) (n : ℕ) → ((i : ℕ) → i < n → f i ≡ g i) → first f n < first g n → ⊥
 never_sooner f g n e l =
     let b : first f n < n = omega (arith, (first_is g n).within) in
@@ -157,18 +177,14 @@ module _ (xs ys corners mate kept marks : List ℕ) (peeled area count : ℕ) (h
   unfolding rim
   along p n = refl
 
-  -- the part of a ring buffer that is written
-  pub ring_written : (part part' : List ℕ) (low : ℕ) → length part ≡ count → low ≡ first (λ p. eqb (get_or marks p 0) 1) (length xs)
-      → part' ≡ sets part 0 (walk (after (bare corners) k) low (length part)) → part' ≡ ring o k
+  pub ring_written : (round round' : List ℕ) (low : ℕ) → count ≤ length round → low ≡ first (λ p. eqb (get_or marks p 0) 1) (length xs)
+      → round' ≡ sets round 0 (walk (after (bare corners) k) low count) → round' ≡ ring o k ++ drop count round
   unfolding ring
-  ring_written part part' low l e w =
+  ring_written round round' low l e w =
       w
-      ∙ ap (λ n. sets part 0 (walk (after (bare corners) k) low n)) l
-      ∙ ap (sets part 0) (along low count ∙ ap₂ (walk (after o k)) (e ∙ lowest) h.rings)
-      ∙ sets-eq (walk (after o k) (first (on_rim o k) (length xs)) (rims o k)) part 0 (let u = length_is in let z = h.rings in omega arith)
-      ∙ ap (λ n. ring o k ++ drop n part) (as_long ∙ sym l)
-      ∙ ap (λ d. ring o k ++ d) (drop-length part)
-      ∙ append-nil (ring o k)
+      ∙ ap (sets round 0) (along low count ∙ ap₂ (walk (after o k)) (e ∙ lowest) h.rings)
+      ∙ sets-eq (walk (after o k) (first (on_rim o k) (length xs)) (rims o k)) round 0 (let u = length_is in let z = h.rings in omega arith)
+      ∙ ap (λ n. ring o k ++ drop n round) as_long
     where
       length_is : length (walk (after o k) (first (on_rim o k) (length xs)) (rims o k)) ≡ rims o k
       length_is = length-walk (after o k) (first (on_rim o k) (length xs)) (rims o k)

@@ -2,9 +2,13 @@
 use Rattle.std.specs.Prelude.{◌≡◌, ◌<◌, ℕ, List}
 use Rattle.sheet.specs.Office.{Office, office, sides}
 use Rattle.rim.specs.Heap.{Heap, Queued, key}
+use Rattle.rim.specs.declared.office.Plan.{Plan}
 use Rattle.rim.specs.declared.office.Accepted.{Accepted}
 use Rattle.rim.specs.declared.keys.Keyed.{Keyed}
 use Rattle.rim.specs.declared.queue.Queue.{Queue}
+
+abbrev pub plan_of : Plan → Office
+plan_of p = office p.xs.now p.ys.now p.corners.now
 
 abbrev pub office_of : Accepted → Office
 office_of a = office a.xs.now a.ys.now a.corners.now

@@ -3,12 +3,12 @@
 #![tactic(auto)]
 
 pub mod answers;
-mod keys;
+pub mod keys;
 pub mod office;
 pub mod queue;
-mod ring;
+pub mod ring;
 mod sides;
-mod start;
+pub mod start;
 pub mod step;
 
 ghost use Rattle.std.specs.Prelude.{◌≡◌, ◌+◌, ◌<◌};

@@ -5,7 +5,7 @@ ghost use Rattle.rim.specs.Values.{office_of, Waits};
 
 use crate::Tally;
 use crate::answers::Step;
-use crate::office::Accepted;
+use crate::office::{Accepted, Plan};
 use crate::queue::Queue;
 use sheet::sides::last_of;
 
@@ -27,11 +27,16 @@ pub fn step(
     match queue.next_side(office, kept, rim) {
         Some(side) if side.squared > limit => {
             let triangle = side.place / 3;
-            let gone = office.area_of(triangle);
+            let plan = Plan {
+                xs: office.xs,
+                ys: office.ys,
+                corners: office.corners,
+            };
+            let gone = plan.area_of(triangle);
             let apex = usize::from(office.corners[last_of(side.place)]);
             kept[triangle] = 0;
             rim[apex] = 1;
-            queue.join(office, rim, side.place);
+            queue.join(&plan, office.mate, rim, side.place);
             let after = tally.after_peel(tally.area - gone, tally.ring + 1);
             (
                 Step::Peeled {

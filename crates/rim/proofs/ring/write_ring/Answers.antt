@@ -1,6 +1,6 @@
 -- The walk goes on by the link.
 use Rattle.std.proofs.Common.{refl}
-use Rattle.rim.proofs.Ringed.{walks_on, walked, link_is, leaves_on}
+use Rattle.rim.proofs.Ringed.{walks_on, walked, part_walked, link_is, leaves_on}
 use Rattle.rim.proofs.ring.write_ring.Goals as goal
 
 pub loop-place-preserved : goal.loop-place-preserved
@@ -12,4 +12,4 @@ loop-place-preserved c =
     })
 
 pub returns : goal.returns
-returns c = walked _ _ _ _ _ _ _ c.loop-place.invariant.walking c.loop-place-test.false
+returns c = part_walked _ _ _ _ _ c.requires.leaves.1 (walked _ _ _ _ _ _ _ c.loop-place.invariant.walking c.loop-place-test.false)

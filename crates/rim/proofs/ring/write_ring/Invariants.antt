@@ -8,6 +8,6 @@ use Rattle.rim.proofs.ring.write_ring.Given as goal
 
 abbrev pub invariant-loop-place : goal.invariant-loop-place
 invariant-loop-place l = record {
-  walking : Walking (after (bare l.corners) (front l.corners l.kept)) l.from (length l.initial.ring) l.initial.ring l.ring l.p l.place-index;
+  walking : Walking (after (bare l.corners) (front l.corners l.kept)) l.from (length l.initial.part) l.initial.part l.part l.p l.place-index;
   leaves : Leaves l.corners (front l.corners l.kept) l.p;
 }

@@ -13,16 +13,16 @@ byte_is false = refl
 
 pub returns-then-one-two : goal.returns-then-one-two
 returns-then-one-two c =
-    leads_greater (plain c.args.office.now.acceptable) c.requires.2 c.if-d-self.false c.if-one-two.true (c.from.ensures ∙ byte_is _) refl
+    leads_greater (plain c.args.plan.now.acceptable) c.requires.2 c.if-d-self.false c.if-one-two.true (c.from.ensures ∙ byte_is _) refl
 
 pub returns-then-second_before : goal.returns-then-second_before
 returns-then-second_before c =
     let p = c.requires.2 in
     let l = c.requires.0 in
-    leads_second c.if-d-self.false (up (by_seconds (plain c.args.office.now.acceptable) _ _ (p.known _ c.if-d-self.false) (p.known _ l) (sym (p.measured _ l) ∙ c.if-one-two.false ∙ p.measured _ c.if-d-self.false) c.second_before.ensures) c.if-second_before.true)
+    leads_second c.if-d-self.false (up (by_seconds (plain c.args.plan.now.acceptable) _ _ (p.known _ c.if-d-self.false) (p.known _ l) (sym (p.measured _ l) ∙ c.if-one-two.false ∙ p.measured _ c.if-d-self.false) c.second_before.ensures) c.if-second_before.true)
 
 pub returns-else-second_before : goal.returns-else-second_before
 returns-else-second_before c =
     let p = c.requires.2 in
     let l = c.requires.0 in
-    leads_first c.if-d-self.false (not_up (by_seconds (plain c.args.office.now.acceptable) _ _ (p.known _ c.if-d-self.false) (p.known _ l) (sym (p.measured _ l) ∙ c.if-one-two.false ∙ p.measured _ c.if-d-self.false) c.second_before.ensures) c.if-second_before.false)
+    leads_first c.if-d-self.false (not_up (by_seconds (plain c.args.plan.now.acceptable) _ _ (p.known _ c.if-d-self.false) (p.known _ l) (sym (p.measured _ l) ∙ c.if-one-two.false ∙ p.measured _ c.if-d-self.false) c.second_before.ensures) c.if-second_before.false)

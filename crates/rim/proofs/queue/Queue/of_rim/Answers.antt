@@ -1,9 +1,16 @@
 -- One more side of the rim waits.
 use Rattle.std.proofs.Common.{ℕ}
 use Rattle.std.proofs.lemmas.List.{length-replicate}
+use Rattle.rim.proofs.Plain.{plain}
 use Rattle.rim.proofs.Gathered.{gather_begins, gathered, skips, takes_fits, takes}
 use Rattle.rim.proofs.queue.Queue.of_rim.Goals as goal
 use Rattle.rim.proofs.queue.Queue.of_rim.Goals.{then-is_rim, else-is_rim}
+
+pub invariant_of-sides : goal.invariant_of-sides
+invariant_of-sides c =
+    let o = c.args.office.now in
+    let a = plain o.acceptable in
+    record { single = a.single; whole = a.corners_bound.1; short = a.corners_bound.2; mates = o.mates }
 
 pub loop-s-init : goal.loop-s-init
 loop-s-init c = gather_begins _ _ _ _ (length-replicate {A = ℕ} 1024 0, length-replicate {A = ℕ} 1024 0)

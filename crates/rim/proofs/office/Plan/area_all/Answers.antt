@@ -2,7 +2,7 @@
 use native.Mathlib.Omega.{arith}
 use Rattle.rim.proofs.Plain.{plain}
 use Rattle.rim.proofs.Begun.{sums_none, sums_one, summed, sum_fits}
-use Rattle.rim.proofs.office.Accepted.area_all.Goals as goal
+use Rattle.rim.proofs.office.Plan.area_all.Goals as goal
 
 pub loop-t-init : goal.loop-t-init
 loop-t-init c = sums_none _

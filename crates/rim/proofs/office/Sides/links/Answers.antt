@@ -2,24 +2,20 @@
 use native.Mathlib.Omega.{arith}
 use Rattle.std.proofs.Common.{length-set}
 use Rattle.rim.specs.Code.{front}
-use Rattle.rim.proofs.Plain.{plain}
 use Rattle.rim.proofs.Ringed.{links_skip, links_one}
-use Rattle.rim.proofs.office.Accepted.links.Goals as goal
-use Rattle.rim.proofs.office.Accepted.links.Goals.{then-is_rim, else-is_rim}
+use Rattle.rim.proofs.office.Sides.links.Goals as goal
+use Rattle.rim.proofs.office.Sides.links.Goals.{then-is_rim, else-is_rim}
 
 pub bounds-link-p : goal.bounds-link-p
-bounds-link-p c =
-    let a = plain c.args.self.now.acceptable in
-    omega (arith, a.numbered c.loop-s.s c.loop-s-test.true, a.points_bound, c.loop-s.invariant.long, c.from-p.ensures)
+bounds-link-p c = omega (arith, c.requires.1 c.loop-s.s c.loop-s-test.true, c.loop-s.invariant.long, c.from-p.ensures)
 
 pub loop-s-preserved : goal.loop-s-preserved
 loop-s-preserved c =
     let o = c.args.self.now in
-    let a = plain o.acceptable in
     let i = c.loop-s.invariant in
     elim c.if-is_rim.branch [
       | then-is_rim w ↦ rw (w.link-is, w.from-p.ensures, w.next_of.ensures) (record {
-        linked = links_one o.corners.now (front o.corners.now c.args.kept.now) c.loop-s.link c.loop-s.s c.requires.1 c.loop-s-test.true (omega (arith, a.numbered c.loop-s.s c.loop-s-test.true, a.points_bound, i.long)) i.linked c.is_rim.ensures w.if-is_rim.true;
+        linked = links_one o.corners.now (front o.corners.now c.args.kept.now) c.loop-s.link c.loop-s.s c.requires.2 c.loop-s-test.true (omega (arith, c.requires.1 c.loop-s.s c.loop-s-test.true, i.long)) i.linked c.is_rim.ensures w.if-is_rim.true;
         long = simp length-set i.long;
       })
       | else-is_rim w ↦ rw w.link-is (record {

@@ -1,7 +1,7 @@
 -- A corner is a point of the grid.
 use Rattle.rim.proofs.Plain.{plain}
 use Rattle.rim.proofs.Cornered.{y_there, small_there}
-use Rattle.rim.proofs.office.Accepted.corner.Goals as goal
+use Rattle.rim.proofs.office.Plan.corner.Goals as goal
 
 pub at_corner-requires-2 : goal.at_corner-requires-2
 at_corner-requires-2 c = y_there (plain c.args.self.now.acceptable) _ c.requires

@@ -2,7 +2,7 @@
 use Rattle.std.proofs.Common.{sym, subst, pos, ◌<ℤ◌}
 use Rattle.rim.proofs.Plain.{plain}
 use Rattle.rim.proofs.Cornered.{area_read}
-use Rattle.rim.proofs.office.Accepted.area_of.Goals as goal
+use Rattle.rim.proofs.office.Plan.area_of.Goals as goal
 
 pub doubled-requires : goal.doubled-requires
 doubled-requires c =

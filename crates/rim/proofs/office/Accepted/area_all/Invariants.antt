@@ -1,7 +1,0 @@
--- The areas below t are added.
-use Rattle.rim.specs.Values.{office_of}
-use Rattle.rim.proofs.Begun.{Summed}
-use Rattle.rim.proofs.office.Accepted.area_all.Given as goal
-
-abbrev pub invariant-loop-t : goal.invariant-loop-t
-invariant-loop-t l = Summed (office_of l.self) l.t l.total

@@ -1,8 +1,0 @@
--- The sides below s are marked.
-use Rattle.rim.specs.Code.{front}
-use Rattle.rim.proofs.Begun.{Marking}
-use Rattle.std.proofs.Common.{length}
-use Rattle.rim.proofs.office.Accepted.mark_rim.Given as goal
-
-abbrev pub invariant-loop-s : goal.invariant-loop-s
-invariant-loop-s l = Marking l.self.corners.now (front l.self.corners.now l.kept) (length l.self.xs.now) l.initial.rim l.rim l.s
