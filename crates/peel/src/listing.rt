@@ -26,7 +26,7 @@ fn note(least: &mut [u32], peeled: &mut [u32], area: &mut [u32], i: usize, limit
 // Peels until nothing is removable, and writes an entry before each peel that is shorter than all before, and one at the end; how many entries, and
 // the tally of the last. A loop of its own, and no closure that `peel_all` calls: a clause of that would have to say what each call leaves.
 // No squared length is as large as the first `shortest`, so the first peel has its entry.
-fn list_all(
+pub fn list_all(
     office: &Accepted,
     kept: &mut [u8],
     rim: &mut [u8],
