@@ -13,7 +13,13 @@ use rim::queue::Queue;
 use rim::step::step;
 
 // Peels until nothing is removable above the limit.
-pub fn peel_all(office: &Accepted, kept: &mut [u8], rim: &mut [u8], limit: u32, begun: Tally) -> Tally
+pub fn peel_all(
+    office: &Accepted,
+    kept: &mut [u8],
+    rim: &mut [u8],
+    limit: u32,
+    begun: Tally,
+) -> Tally
     requires { State (office_of office.now) office.now.mate.now kept.old rim.old begun.peeled begun.area begun.ring }
     ensures { Drew (office_of office.now) limit office.now.mate.now kept.old rim.old begun.peeled kept.new rim.new result.peeled result.area result.ring }
 {
