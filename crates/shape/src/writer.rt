@@ -22,10 +22,26 @@ pub fn is_ring(xs: &[u16], ys: &[u16]) -> bool
     xs.len() == ys.len() && is_ring_length(xs.len())
 }
 
-fn is_low(x: &[u16]) -> bool
+// Whether the coordinates of a part are low, asked several at once: `all` would ask one after another.
+fn is_low_part(x: &[u16]) -> bool
     ensures { result ≡ low x.now }
 {
     x.iter().fold(true, |low, g| low & (*g <= 16383))
+}
+
+// Part by part, so that behind a coordinate that is too large no more than its part is asked.
+fn is_low(x: &[u16]) -> bool
+    ensures { result ≡ low x.now }
+{
+    let mut rest = x;
+    while 64 < rest.len() {
+        let (part, more) = rest.split_at(64);
+        if !is_low_part(part) {
+            return false;
+        }
+        rest = more;
+    }
+    is_low_part(rest)
 }
 
 pub fn are_low(xs: &[u16], ys: &[u16]) -> bool
