@@ -84,13 +84,6 @@ pub same_number : (k byte : ℕ) (s : List ℕ) (at : ℕ) → number_at k (code
 same_number k zero s at = refl
 same_number k (suc n) s at = sym (ap (λ (b : Bool). low_first (turned b (take k (drop at s)))) (ne_eqb (suc n) 0 (λ e. omega arith)))
 
--- ... and so is a count
-pub same_size : {order : ByteOrder} (repeated byte : ℕ) (s : List ℕ) (at room : ℕ) → order ≡ order_of byte
-    → asked (size_asks repeated (code order) s at room) (number_at 4 (code order) s at) ≡ asked (size_asks repeated byte s at room) (number_at 4 byte s at)
-same_size {order} repeated byte s at room is =
-    ap (λ (n : ℕ). asked (whole 4 s at ∷ must (leb (3 + repeated) n && leb n (1024 + repeated)) 24 at ∷ must (leb (n - repeated) room) 29 at ∷ []) n)
-    (ap (λ (o : ByteOrder). number_at 4 (code o) s at) is ∙ same_number 4 byte s at)
-
 pub code_is : (byte : ℕ) → byte ≤ 1 → code (order_of byte) ≡ byte
 code_is zero h = refl
 code_is (suc zero) h = refl

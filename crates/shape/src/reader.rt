@@ -110,15 +110,8 @@ impl Block<'_> {
         requires { (at ≤ length self.now.bytes.now) × (repeated ≤ 1) }
         ensures { reply result ≡ asked (size_asks repeated (code self.now.order) self.now.bytes.now at room) (number_at 4 (code self.now.order) self.now.bytes.now at) }
     {
-        whole(self.bytes, at, 4)?;
-        let count = self.number4(at) as usize;
-        if count < 3 + repeated || 1024 + repeated < count {
-            return Err(Rule::PositionCount.at(at));
-        }
-        if room < count - repeated {
-            return Err(Rule::ShortLists.at(at));
-        }
-        Ok(count)
+        size_fault(self.bytes, self.order.into(), at, repeated, room)?;
+        Ok(self.number4(at) as usize)
     }
 
     // The count of positions of a polygon at a place, whose count of rings is asked too.
@@ -186,10 +179,17 @@ pub fn size_fault(
     room: usize,
 ) -> Result<(), Refusal>
     requires { (at ≤ length s.now) × (repeated ≤ 1) }
-    ensures { reply result ≡ asked (size_asks repeated order s.now at room) tt }
+    ensures result_value { reply result ≡ asked (size_asks repeated order s.now at room) tt }
+    ensures there { OnOk result (at + 4 ≤ length s.now) }
 {
-    let order = ByteOrder::of(order);
-    Block { bytes: s, order }.sized(at, repeated, room)?;
+    whole(s, at, 4)?;
+    let count = number4(s, order, at) as usize;
+    if count < 3 + repeated || 1024 + repeated < count {
+        return Err(Rule::PositionCount.at(at));
+    }
+    if room < count - repeated {
+        return Err(Rule::ShortLists.at(at));
+    }
     Ok(())
 }
 
